@@ -1,16 +1,7 @@
 -- The values of an attribute are read back.
-use Rattle.std.proofs.Common.{◌≡◌, ℕ, zero, suc, ◌+◌, ◌*◌, ◌/◌, ◌^◌, ◌<◌, true, false, List, [], ◌∷◌, length, drop, take, map, sym, ◌∙◌, ap, refl, subst, arith, length-take, length-drop, ℤ, rules, pos, unsigned_abs, Ok}
-use Rattle.cdl_laws.proofs.Prelude.{flat_map, mul-div_cancel, ints, take-append-drop, get_or-drop, AreBytes, Att, NcType, Char, Version, numbers, numbers_from, bytes_of_number, IsInRange, size_of, IsSoundAtt, att_text, numbers_text, joined, without_trailing_nuls, IsName, is_char, has_type, trimmed_att, HasSomeNumber, Characters, has_number, some_size, is_had, number_suffix, length-numbers_from, Each, each_map, Lexeme, chars_text, concat_parts}
+use Rattle.cdl_laws.proofs.Prelude.{◌≡◌, ℕ, zero, suc, ◌+◌, ◌*◌, ◌/◌, ◌^◌, ◌<◌, true, false, List, [], ◌∷◌, length, drop, take, map, sym, ◌∙◌, ap, refl, subst, arith, length-take, length-drop, ℤ, rules, pos, unsigned_abs, Ok, flat_map, mul-div_cancel, ints, take-append-drop, get_or-drop, AreBytes, Att, NcType, Char, Version, numbers, numbers_from, bytes_of_number, IsInRange, size_of, IsSoundAtt, att_text, numbers_text, joined, without_trailing_nuls, IsName, is_char, has_type, trimmed_att, HasSomeNumber, Characters, has_number, some_size, is_had, number_suffix, length-numbers_from, Each, each_map, Lexeme, chars_text, concat_parts}
 use Rattle.nc_base.proofs.NumberBytes.{bytes_read_back, numbers_in_range}
-use Rattle.cdl_laws.proofs.Acts.{numbers_added, chars_added}
-use Rattle.cdl_laws.proofs.Declarations.{Speaks, broken_read, numbers_said, suffixed, first, others, all_bytes}
-use Rattle.cdl_laws.proofs.Characters.{strings_said}
-use Rattle.cdl_laws.proofs.Heads.{joined_reads, strings_fine}
-use Rattle.cdl_laws.proofs.Numerals.{numeral_again, number_is, on_suffix}
-use Rattle.cdl_laws.proofs.Strings.{string}
-use Rattle.cdl_laws.proofs.Takes.{all_fine}
-use Rattle.cdl_laws.proofs.Texts.{Reads, number, number_reads}
-use Rattle.cdl_laws.proofs.ValueTexts.{commas, constants_say}
+use Rattle.cdl_laws.proofs.Readings.{numbers_added, chars_added, Speaks, broken_read, numbers_said, suffixed, first, others, all_bytes, strings_said, joined_reads, strings_fine, numeral_again, number_is, on_suffix, string, all_fine, Reads, number, number_reads, commas, constants_say}
 
 pub small_is : (ty : NcType) (z : ℤ) → IsInRange ty z → unsigned_abs z < 2 ^ 64
 small_is ty z h = grind (arith, pos, ints)

@@ -1,6 +1,5 @@
 -- The strings of a variable of characters are read back, and what a row shows, filled up, is the row.
-use Rattle.std.proofs.Common.{◌≡◌, ℕ, suc, ◌+◌, ◌*◌, ◌<◌, ◌≤◌, true, false, List, [], ◌∷◌, ◌++◌, length, map, sym, ◌∙◌, ap, refl, subst, arith, append_assoc, append-nil, length-append, ℤ, ◌==◌, codes, zero, ◌-◌, Bool, pos, unsigned_abs, replicate, Some, Ok, Option}
-use Rattle.cdl_laws.proofs.Prelude.{flat_map, escaped_name, escaped_text, IsName, Look, is_char, char_lead, variable_opening, variable_closing, variable_text, Lexeme, Each, prefix_is, pieces_are, a_row, char_pieces, printed, map-append, length-replicate, replicate_more, Version, escaped_in_string, is_nul, string_value, stands_for, Characters, constants, Joined, Rows, filled, in_turn, le-leb, length-map, any_each, lexemes_at, concat_parts, add_value}
+use Rattle.cdl_laws.proofs.Prelude.{◌≡◌, ℕ, suc, ◌+◌, ◌*◌, ◌<◌, ◌≤◌, true, false, List, [], ◌∷◌, ◌++◌, length, map, sym, ◌∙◌, ap, refl, subst, arith, append_assoc, append-nil, length-append, ℤ, ◌==◌, codes, zero, ◌-◌, Bool, pos, unsigned_abs, replicate, Some, Ok, Option, flat_map, escaped_name, escaped_text, IsName, Look, is_char, char_lead, variable_opening, variable_closing, variable_text, Lexeme, Each, prefix_is, pieces_are, a_row, char_pieces, printed, map-append, length-replicate, replicate_more, Version, escaped_in_string, is_nul, string_value, stands_for, Characters, constants, Joined, Rows, filled, in_turn, le-leb, length-map, any_each, lexemes_at, concat_parts, add_value}
 use Rattle.cdl_laws.proofs.Texts.{Closed, mark, marks_closed, word, reading}
 use Rattle.cdl_laws.proofs.Strings.{string, string_read, unescape_all, between_quotes}
 use Rattle.cdl_laws.proofs.ValueTexts.{commas, comma, semicolon, turn, constants_say, IsWithin}

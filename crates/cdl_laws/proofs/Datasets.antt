@@ -1,12 +1,8 @@
 -- A dataset that a text can declare is read back from its full dump.
-use Rattle.std.proofs.Common.{◌≡◌, ℕ, ◌+◌, ◌*◌, ◌-◌, ◌/◌, ◌<◌, true, List, [], ◌∷◌, ◌++◌, map, ◌∙◌, ap, refl, arith, append_assoc, slice_index_or, ◌⊎◌, drop, sym, subst}
-use Rattle.cdl_laws.proofs.Prelude.{KeepsFill, mul-add-div, div-eq_of_lt, Dataset, Dim, Header, Var, Version, values_in_dataset, AreArrays, IsName, numbers, slab_count, record_vars, trimmed_var, array_of, records_in, Draft, Each, list_all, record_size_of, padded_size, has_small_array, and_both, le-leb, EachAfter, IsArray, Att, get_or-drop, drop-drop, variables_text, shown_data, Values, whole, has_values, look_of}
+use Rattle.cdl_laws.proofs.Prelude.{◌≡◌, ℕ, ◌+◌, ◌*◌, ◌-◌, ◌/◌, ◌<◌, true, List, [], ◌∷◌, ◌++◌, map, ◌∙◌, ap, refl, arith, append_assoc, slice_index_or, ◌⊎◌, drop, sym, subst, KeepsFill, mul-add-div, div-eq_of_lt, Dataset, Dim, Header, Var, Version, values_in_dataset, AreArrays, IsName, numbers, slab_count, record_vars, trimmed_var, array_of, records_in, Draft, Each, list_all, record_size_of, padded_size, has_small_array, and_both, le-leb, EachAfter, IsArray, Att, get_or-drop, drop-drop, variables_text, shown_data, Values, whole, has_values, look_of, map-map}
 use Rattle.cdl_laws.proofs.Given.{IsBack, is_back}
-use Rattle.cdl_laws.proofs.Acts.{no_draft}
+use Rattle.cdl_laws.proofs.Readings.{no_draft, Takes, takes_nothing, state, draft_of}
 use Rattle.cdl_laws.proofs.DataTexts.{given_draft, IsGivenBy, all_marked, one_taken}
-use Rattle.cdl_laws.proofs.Takes.{Takes, takes_nothing}
-use Rattle.cdl_laws.proofs.Wholes.{state, draft_of}
-use Rattle.nc_base.proofs.WholeValues.{map-map}
 
 -- ---- rows
 

@@ -1,6 +1,5 @@
 -- The statements of a head, and what they say.
-use Rattle.std.proofs.Common.{◌≡◌, ℕ, zero, suc, ◌^◌, ◌<◌, true, false, List, [], ◌∷◌, ◌++◌, map, sym, ◌∙◌, ap, refl, arith, append_assoc, append-nil, ℤ, pos, decimal, ◌==◌, not, if◌then◌else◌, None, Some, Ok, codes, rules, length, subst}
-use Rattle.cdl_laws.proofs.Prelude.{signed_decimal, flat_map, list_all, list_all-append, all_mono, concat_parts, Att, Dim, NcType, Version, escaped_name, escaped_in_string, joined, dim_len_text, dim_line, unlimited_word, currently_word, att_line, att_text, broken_text, string_break, IsName, number_suffix, Section, Dimensions, Variables, is_digit, Lexeme, said_dim, IsBeforeData, globals, dimensions, variables, Value, Number, DeclareDimensions, Attribute, both, constants, assigned, shape, and_left, and_right, and_both, Each, escaped_text, type_word, DeclareVariables, Variable, in_parentheses, any_each, each_map, not_none, IsStatement, AttributeReadsBack, first_type, in_turn, add_constant, trimmed_att, Var, declaration, dim_name, shape_text, lexemes_at}
+use Rattle.cdl_laws.proofs.Prelude.{◌≡◌, ℕ, zero, suc, ◌^◌, ◌<◌, true, false, List, [], ◌∷◌, ◌++◌, map, sym, ◌∙◌, ap, refl, arith, append_assoc, append-nil, ℤ, pos, decimal, ◌==◌, not, if◌then◌else◌, None, Some, Ok, codes, rules, length, subst, signed_decimal, flat_map, list_all, list_all-append, all_mono, concat_parts, Att, Dim, NcType, Version, escaped_name, escaped_in_string, joined, dim_len_text, dim_line, unlimited_word, currently_word, att_line, att_text, broken_text, string_break, IsName, number_suffix, Section, Dimensions, Variables, is_digit, Lexeme, said_dim, IsBeforeData, globals, dimensions, variables, Value, Number, DeclareDimensions, Attribute, both, constants, assigned, shape, and_left, and_right, and_both, Each, escaped_text, type_word, DeclareVariables, Variable, in_parentheses, any_each, each_map, not_none, IsStatement, AttributeReadsBack, first_type, in_turn, add_constant, trimmed_att, Var, declaration, dim_name, shape_text, lexemes_at}
 use Rattle.cdl_laws.proofs.Texts.{Closed, Reads, mark, word, number, name_word, name_stands, marks_closed, number_reads, mark_read, stops, reading}
 use Rattle.cdl_laws.proofs.Numerals.{value_again, decimal_digits, value_is}
 use Rattle.cdl_laws.proofs.Strings.{string}

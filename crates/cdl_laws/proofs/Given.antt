@@ -1,8 +1,7 @@
 -- The array of a variable is given back by the text of its values.
-use Rattle.std.proofs.Common.{◌≡◌, ℕ, zero, suc, ◌*◌, ◌<◌, true, false, List, [], ◌∷◌, length, drop, take, map, sym, ◌∙◌, ap, refl, subst, arith, length-take, length-drop, ℤ, pos, ◌&&◌, ◌==◌, not, nat_lt, find, Some, rules, if◌then◌else◌, Option}
-use Rattle.cdl_laws.proofs.Prelude.{int_eq, false≢true, Decides-int_eq, take-append-drop, Att, Dim, Header, Var, NcType, Version, fill_value, is_fill_att, value_count, IsArray, IsName, numbers, IsInRange, is_record_var, product, slab_lens, look_of, is_char, row_len, trimmed_att, trimmed_var, filled, array_of, and_left, is_off, is_on, look-type, Each, each_drop, each_map, each_take, slab_rows, has_values, listed_values, and_false, option_map, takes_of, Takes, Numbers, Joined, Rows}
+use Rattle.cdl_laws.proofs.Prelude.{◌≡◌, ℕ, zero, suc, ◌*◌, ◌<◌, true, false, List, [], ◌∷◌, length, drop, take, map, sym, ◌∙◌, ap, refl, subst, arith, length-take, length-drop, ℤ, pos, ◌&&◌, ◌==◌, not, nat_lt, find, Some, rules, if◌then◌else◌, Option, int_eq, false≢true, Decides-int_eq, take-append-drop, Att, Dim, Header, Var, NcType, Version, fill_value, is_fill_att, value_count, IsArray, IsName, numbers, IsInRange, is_record_var, product, slab_lens, look_of, is_char, row_len, trimmed_att, trimmed_var, filled, array_of, and_left, is_off, is_on, look-type, Each, each_drop, each_map, each_take, slab_rows, has_values, listed_values, and_false, option_map, takes_of, Takes, Numbers, Joined, Rows}
 use Rattle.cdl_laws.proofs.Attributes.{AreNumbersOf, numbers_are, all_fit, all_small}
-use Rattle.cdl_laws.proofs.Characters.{flat, IsCharacter}
+use Rattle.cdl_laws.proofs.Readings.{flat, IsCharacter}
 use Rattle.cdl_laws.proofs.DataTexts.{Gives, IsRoomFor, gives_numbers, gives_table, gives_line, given_draft, IsGivenBy}
 
 -- ---- the fill value

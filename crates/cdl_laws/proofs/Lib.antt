@@ -26,3 +26,4 @@ pub mod TextTokens
 pub mod RowsRead
 mod examples
 pub mod Prelude
+pub mod Readings

@@ -1,6 +1,5 @@
 -- A valid name, escaped, is one word that stands for it.
-use Rattle.std.proofs.Common.{◌≡◌, ℕ, Bool, true, false, List, [], ◌∷◌, ◌++◌, length, get_or, ◌∙◌, refl, arith, if◌then◌else◌, ap}
-use Rattle.cdl_laws.proofs.Prelude.{flat_map, list_all, bytes_eq, bytes_eq-Decides, is_plain, escaped_in_name, escaped_name, is_reserved, reserved_words, may_begin_name, may_follow_in_name, is_escape, is_escapable, goes_on_word, may_begin_word, word_len, word_value, and_left, and_right, word_at_start, value_at_start, list_any, or_left, or_right}
+use Rattle.cdl_laws.proofs.Prelude.{◌≡◌, ℕ, Bool, true, false, List, [], ◌∷◌, ◌++◌, length, get_or, ◌∙◌, refl, arith, if◌then◌else◌, ap, flat_map, list_all, bytes_eq, bytes_eq-Decides, is_plain, escaped_in_name, escaped_name, is_reserved, reserved_words, may_begin_name, may_follow_in_name, is_escape, is_escapable, goes_on_word, may_begin_word, word_len, word_value, and_left, and_right, word_at_start, value_at_start, list_any, or_left, or_right}
 
 -- ---- bytes
 

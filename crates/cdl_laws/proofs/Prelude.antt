@@ -1,4 +1,5 @@
 -- The names that proofs of this crate cite from elsewhere, passed on from one place.
+pub use Rattle.std.proofs.Common.{◌≡◌, ℕ, ◌+◌, ◌*◌, ◌-◌, ◌/◌, ◌<◌, true, List, [], ◌∷◌, ◌++◌, map, ◌∙◌, ap, refl, arith, append_assoc, slice_index_or, ◌⊎◌, drop, sym, subst, false, append-nil, None, Ok, codes, rules, length, Result, ℤ, Bool, get_or, if◌then◌else◌, suc, ◌^◌, Some, ◌≤◌, unsigned_abs, ◌==◌, not, Option, zero, take, ◌&&◌, is_none, is_some, ◌||◌, All, filter, slice_get, pos, replicate, ◌%◌, decimal, negsuc, nat_le, length-drop, nat_lt, find, neg_ℤ, Err}
 pub use Rattle.cdl_laws.specs.Goods.{KeepsFill, IsNearlySayable, MeaningsAreGood, MeaningsAreNearlySayable}
 pub use Rattle.cdl_laws.specs.PieceLaws.{AttributeReadsBack, DeclarationReadsBack, IsBeforeData, IsStatement, SaysStatement, brace_piece, declaration, dimensions, globals, opening_line, opening_piece, said_dim, variables}
 pub use Rattle.cdl_laws.specs.Reading.{cut_lexemes, lexemes, with_lexeme}
@@ -68,7 +69,7 @@ pub use Rattle.std.proofs.lemmas.Bool.{eqb-true, false≢true, le-leb, lt-ltb}
 pub use Rattle.std.proofs.lemmas.Bool.Decides.{Decides-int_eq}
 pub use Rattle.std.proofs.lemmas.Fmt.{decimal_nonempty, first_decimal}
 pub use Rattle.std.proofs.lemmas.Int.{ints}
-pub use Rattle.std.proofs.lemmas.List.{drop-drop, get_or-drop, length-append, length-map, length-replicate, length-take, map-append, replicate_more, take-append-drop}
+pub use Rattle.std.proofs.lemmas.List.{drop-drop, get_or-drop, length-append, length-map, length-replicate, length-take, map-append, replicate_more, take-append-drop, get_or-map, map-id}
 pub use Rattle.std.proofs.lemmas.List.Folds.{list_all-append, list_any-append}
 pub use Rattle.std.proofs.lemmas.List.Sums.{suffix_len-take_no, suffix_len-take_yes}
 pub use Rattle.std.proofs.lemmas.Slice.Eq.{bytes_eq-Decides}
@@ -95,3 +96,5 @@ pub use Rattle.cdl_statements.proofs.Meanings.{IsByte, IsWhole, are_bytes, meani
 pub use Rattle.cdl_statements.proofs.Results.{OkIs, any_each, ok_next, ok_then, ok_unless, ok_when, turns}
 pub use Rattle.cdl_statements.proofs.Rows.{slab_rows}
 pub use Rattle.cdl_statements.proofs.SoundTests.{sound_is_tested}
+pub use Rattle.nc_base.proofs.WholeValues.{map-map}
+pub use Rattle.std.specs.Prelude.{unwrap_or, ⊤}

@@ -1,10 +1,7 @@
 -- What a dataset that a text can declare gives for each of its parts.
-use Rattle.std.proofs.Common.{◌≡◌, ℕ, ◌+◌, ◌^◌, ◌<◌, ◌≤◌, Bool, true, false, List, [], ◌∷◌, ◌++◌, length, map, sym, ◌∙◌, ap, refl, subst, arith, append_assoc, ◌||◌, ◌==◌, All, filter, rules}
-use Rattle.cdl_laws.proofs.Prelude.{list_any, bytes_eq, false≢true, map-append, list_any-append, bytes_eq-Decides, AreBytes, Att, Dim, Var, Version, has_name, has_record_dim, IsSoundAtt, IsSoundVar, IsSoundDim, IsName, count_limit, AreDistinct, IsSayableVar, HasSomeNumber, trimmed_att, Draft, Each, each_of, EachAfter, any_each, or_left, or_right}
-use Rattle.cdl_laws.proofs.Acts.{record_once, no_draft, is_new_att}
+use Rattle.cdl_laws.proofs.Prelude.{◌≡◌, ℕ, ◌+◌, ◌^◌, ◌<◌, ◌≤◌, Bool, true, false, List, [], ◌∷◌, ◌++◌, length, map, sym, ◌∙◌, ap, refl, subst, arith, append_assoc, ◌||◌, ◌==◌, All, filter, rules, list_any, bytes_eq, false≢true, map-append, list_any-append, bytes_eq-Decides, AreBytes, Att, Dim, Var, Version, has_name, has_record_dim, IsSoundAtt, IsSoundVar, IsSoundDim, IsName, count_limit, AreDistinct, IsSayableVar, HasSomeNumber, trimmed_att, Draft, Each, each_of, EachAfter, any_each, or_left, or_right}
+use Rattle.cdl_laws.proofs.Readings.{record_once, no_draft, is_new_att, Speaks, AreNewDims, AreNewAtts, IsFit}
 use Rattle.cdl_laws.proofs.Attributes.{speaks}
-use Rattle.cdl_laws.proofs.Declarations.{Speaks}
-use Rattle.cdl_laws.proofs.Wholes.{AreNewDims, AreNewAtts, IsFit}
 
 -- ---- names
 

@@ -1,6 +1,5 @@
 -- An escaped string between quotes is one token that stands for it.
-use Rattle.std.proofs.Common.{◌≡◌, ℕ, ◌+◌, ◌-◌, ◌/◌, ◌%◌, ◌<◌, true, false, List, [], ◌∷◌, ◌++◌, length, drop, take, sym, ◌∙◌, ap, refl, subst, arith, append_assoc, length-append, ◌==◌, map, Some, is_some, rules}
-use Rattle.cdl_laws.proofs.Prelude.{is_ascii_control, flat_map, list_all, eqb-true, take-append_seam, escaped_in_string, octal_escape, is_octal, number_in, len_until, scan, character, up_to_255, plain_escape, unescape, unescape_at, Lexeme, until_at_start, AreToken, escaped_text, lexemes_at}
+use Rattle.cdl_laws.proofs.Prelude.{◌≡◌, ℕ, ◌+◌, ◌-◌, ◌/◌, ◌%◌, ◌<◌, true, false, List, [], ◌∷◌, ◌++◌, length, drop, take, sym, ◌∙◌, ap, refl, subst, arith, append_assoc, length-append, ◌==◌, map, Some, is_some, rules, is_ascii_control, flat_map, list_all, eqb-true, take-append_seam, escaped_in_string, octal_escape, is_octal, number_in, len_until, scan, character, up_to_255, plain_escape, unescape, unescape_at, Lexeme, until_at_start, AreToken, escaped_text, lexemes_at}
 use Rattle.cdl_tokens.specs.declared.token.TokenKind.TheVariants as kinds
 use Rattle.cdl_laws.proofs.Texts.{prefix_again}
 

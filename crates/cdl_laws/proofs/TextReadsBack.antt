@@ -1,17 +1,10 @@
 -- The full dump of a dataset that a text can declare means that dataset, trimmed.
-use Rattle.std.proofs.Common.{◌≡◌, ℕ, true, false, List, [], ◌∷◌, ◌++◌, map, ◌∙◌, ap, refl, append_assoc, append-nil, None, Ok, subst, codes, arith, rules, ◌<◌, sym, slice_index_or}
-use Rattle.cdl_laws.proofs.Prelude.{KeepsFill, IsSoundDim, Enter, act, DataText, variables_text, concat_parts, Dataset, Att, Header, Var, Version, Options, dump_text, shown_data_text, values_in_dataset, shown_data, selection_of, is_selected, data_word, closing_word, head_text, netcdf_word, dims_text, vars_text, gatts_text, Variables, Values, Ended, meaning, piece_read, empty, finished, are_within_limits, dataset_of, cut_lexemes, lexemes, pieces_of, IsFull, trimmed, trimmed_att, in_turn, Each, list_all, Dim, Known, Streaming, unknown, IsGood, bare_var, IsName, slab_count, has_small_array, is_sound, records_in, sound_is_tested, State, TextReadsBack, AreDistinct, IsSayable, Draft, and_both, some_count, each_map, each_of, any_each, record_vars, array_of, trimmed_var}
-use Rattle.cdl_laws.proofs.Acts.{AreDistinctDims, HaveNames, no_draft}
-use Rattle.cdl_laws.proofs.Declarations.{Speaks}
-use Rattle.cdl_laws.proofs.Wholes.{IsFit, state, AreNewDims, AreNewAtts, AreFit, draft_of}
+use Rattle.cdl_laws.proofs.Prelude.{◌≡◌, ℕ, true, false, List, [], ◌∷◌, ◌++◌, map, ◌∙◌, ap, refl, append_assoc, append-nil, None, Ok, subst, codes, arith, rules, ◌<◌, sym, slice_index_or, KeepsFill, IsSoundDim, Enter, act, DataText, variables_text, concat_parts, Dataset, Att, Header, Var, Version, Options, dump_text, shown_data_text, values_in_dataset, shown_data, selection_of, is_selected, data_word, closing_word, head_text, netcdf_word, dims_text, vars_text, gatts_text, Variables, Values, Ended, meaning, piece_read, empty, finished, are_within_limits, dataset_of, cut_lexemes, lexemes, pieces_of, IsFull, trimmed, trimmed_att, in_turn, Each, list_all, Dim, Known, Streaming, unknown, IsGood, bare_var, IsName, slab_count, has_small_array, is_sound, records_in, sound_is_tested, State, TextReadsBack, AreDistinct, IsSayable, Draft, and_both, some_count, each_map, each_of, any_each, record_vars, array_of, trimmed_var, map-map, get_or-map}
+use Rattle.cdl_laws.proofs.Readings.{AreDistinctDims, HaveNames, no_draft, Speaks, IsFit, state, AreNewDims, AreNewAtts, AreFit, draft_of, Takes, says_takes, pieces_are, run_is}
 use Rattle.cdl_laws.proofs.DataTexts.{all_marked}
 use Rattle.cdl_laws.proofs.Datasets.{Row, AreNew, given, data_taken, data_whole, row_name, rows_of, arrays_back, records_back, all_small}
 use Rattle.cdl_laws.proofs.Ends.{opening_bytes, opened, dims_part, vars_part, gatts_part, data_says, end_taken, after_dims, after_vars}
-use Rattle.cdl_laws.proofs.Takes.{Takes, says_takes}
-use Rattle.cdl_laws.proofs.Lines.{pieces_are, run_is}
 use Rattle.nc_base.specs.declared.header.NumRecs.{NumRecs}
-use Rattle.nc_base.proofs.WholeValues.{map-map}
-use Rattle.std.proofs.lemmas.List.{get_or-map}
 use Rattle.cdl_laws.proofs.Sayables.{new_after, none_before, draft_name, var_name, atts_new, atts_speak, new_dims, dim_name, IsSayableHead, fit}
 use Rattle.cdl_laws.proofs.Trimmed.{good_still}
 

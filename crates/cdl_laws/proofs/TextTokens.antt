@@ -1,8 +1,7 @@
 -- The strings of a text stand for bytes.
-use Rattle.std.proofs.Common.{◌≡◌, ℕ, zero, suc, ◌+◌, ◌-◌, ◌<◌, Bool, true, List, [], ◌∷◌, length, take, drop, sym, ◌∙◌, ap, refl, subst, arith, ◌&&◌, if◌then◌else◌, map, Option, Some, is_none, is_some, rules, false}
-use Rattle.cdl_laws.proofs.Prelude.{list_all, inner, string_value, unescape, or_zero, scan, scan_text, raw, tokens_at, tokens, with_token, token_at, Scanned, Token, TokenKind, StandsForBytes, StringsStandForBytes, inner_of, Each, all_of}
+use Rattle.cdl_laws.proofs.Prelude.{◌≡◌, ℕ, zero, suc, ◌+◌, ◌-◌, ◌<◌, Bool, true, List, [], ◌∷◌, length, take, drop, sym, ◌∙◌, ap, refl, subst, arith, ◌&&◌, if◌then◌else◌, map, Option, Some, is_none, is_some, rules, false, list_all, inner, string_value, unescape, or_zero, scan, scan_text, raw, tokens_at, tokens, with_token, token_at, Scanned, Token, TokenKind, StandsForBytes, StringsStandForBytes, inner_of, Each, all_of}
 use Rattle.cdl_tokens.specs.declared.token.TokenKind.TheVariants as kinds
-use Rattle.cdl_laws.proofs.Lines.{tail_at}
+use Rattle.cdl_laws.proofs.Readings.{tail_at}
 
 -- ---- what a string token is made of
 

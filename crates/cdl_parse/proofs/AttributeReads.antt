@@ -1,7 +1,5 @@
 -- What the tokens of an attribute's statement make of the attributes.
-use Rattle.std.proofs.Common.{◌≡◌, ℕ, Bool, true, false, List, [], ◌∷◌, ◌++◌, refl, sym, ap, ◌∙◌, Result, Ok, Err, if◌then◌else◌, arith, rules}
-use Rattle.nc_base.specs.Names.{is_name as is_format_name}
-use Rattle.cdl_parse.proofs.Prelude.{Att, NcType, Version, value_of, values, completes, is_value_of, next, is_done, next_token, text_of, version_of, words, Cutter, word_value, Lexeme, is_mark, lexeme, Value, AttributeName, Equals, Separator, CdlKind, BadName, DuplicateName, value_first, add_att, add_constant, first_type, in_turn, type_said, unless, when, FailsRead, Leaves, ReadError, has_attribute, att_read, att_said, ◌>>=◌, ⊤}
+use Rattle.cdl_parse.proofs.Prelude.{◌≡◌, ℕ, Bool, true, false, List, [], ◌∷◌, ◌++◌, refl, sym, ap, ◌∙◌, Result, Ok, Err, if◌then◌else◌, arith, rules, Att, NcType, Version, value_of, values, completes, is_value_of, next, is_done, next_token, text_of, version_of, words, Cutter, word_value, Lexeme, is_mark, lexeme, Value, AttributeName, Equals, Separator, CdlKind, BadName, DuplicateName, value_first, add_att, add_constant, first_type, in_turn, type_said, unless, when, FailsRead, Leaves, ReadError, has_attribute, att_read, att_said, ◌>>=◌, ⊤, is_name as is_format_name}
 use Rattle.cdl_statements.specs.code.DueTokens.{is_name}
 use Rattle.cdl_statements.specs.declared.due.Due.TheVariants.{Value as DueValue}
 use Rattle.cdl_parse.proofs.TakenNames.{named}

@@ -1,6 +1,5 @@
 -- The line of the last statement but one, a statement at a time.
-use Rattle.std.proofs.Common.{◌≡◌, ℕ, true, false, List, ◌∷◌, map, refl, ap, sym, ◌∙◌, arith}
-use Rattle.cdl_parse.proofs.Prelude.{after, first_line, first_piece, is_done, next_token, other_pieces, pieces_left, text_of, words, Lexeme, lexeme, pieces_after, Cutter, PassedLines, Token, closing_after, closing_line, closing_of, with_line}
+use Rattle.cdl_parse.proofs.Prelude.{◌≡◌, ℕ, true, false, List, ◌∷◌, map, refl, ap, sym, ◌∙◌, arith, after, first_line, first_piece, is_done, next_token, other_pieces, pieces_left, text_of, words, Lexeme, lexeme, pieces_after, Cutter, PassedLines, Token, closing_after, closing_line, closing_of, with_line}
 use Rattle.cdl_parse.proofs.StatementWords.{begins}
 use Rattle.cdl_parse.proofs.Runs.{line_is}
 

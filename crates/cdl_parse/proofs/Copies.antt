@@ -1,6 +1,5 @@
 -- Copies of bytes, one after the other.
-use Rattle.std.proofs.Common.{◌≡◌, ℕ, zero, suc, ◌+◌, List, ◌++◌, refl, sym, ap, ◌∙◌, append_assoc, append-nil, replicate, rules}
-use Rattle.std.specs.List.{concat, flat_map}
+use Rattle.cdl_parse.proofs.Prelude.{◌≡◌, ℕ, zero, suc, ◌+◌, List, ◌++◌, refl, sym, ap, ◌∙◌, append_assoc, append-nil, replicate, rules, concat, flat_map}
 
 more_copies : (n : ℕ) (xs : List ℕ) → concat (replicate n xs) ++ xs ≡ concat (replicate (suc n) xs)
 more_copies zero xs = sym (append-nil xs)

@@ -1,6 +1,5 @@
 -- A run over the data section, statement by statement.
-use Rattle.std.proofs.Common.{◌≡◌, ℕ, false, List, [], length, Ok, replicate, rules}
-use Rattle.cdl_parse.proofs.Prelude.{Var, after, is_done, pieces_left, text_of, version_of, words, Cutter, Values, piece_read, run, State, Draft, unlisted_drafts, AllSuit, names_of, Target, IsInDataSection}
+use Rattle.cdl_parse.proofs.Prelude.{◌≡◌, ℕ, false, List, [], length, Ok, replicate, rules, Var, after, is_done, pieces_left, text_of, version_of, words, Cutter, Values, piece_read, run, State, Draft, unlisted_drafts, AllSuit, names_of, Target, IsInDataSection}
 use Rattle.cdl_parse.proofs.DataStates.{none_listed}
 use Rattle.cdl_parse.proofs.RunSteps.{goes_on}
 

@@ -1,6 +1,5 @@
 -- The statements of the data section, one by one.
-use Rattle.std.proofs.Common.{◌≡◌, ℕ, true, List, Result, slice_set, sym, ap, ◌∙◌, subst, Some, Ok, arith}
-use Rattle.cdl_parse.proofs.Prelude.{Var, Version, Lexeme, statement_said, Cutter, Values, Closed, piece_read, Draft, State, act, AllList, Means, begins_brace, name_first, names_of, with_listed, position_of, Target, ReadError, Closes, ReadsOne, IsInDataSection, given_at}
+use Rattle.cdl_parse.proofs.Prelude.{◌≡◌, ℕ, true, List, Result, slice_set, sym, ap, ◌∙◌, subst, Some, Ok, arith, Var, Version, Lexeme, statement_said, Cutter, Values, Closed, piece_read, Draft, State, act, AllList, Means, begins_brace, name_first, names_of, with_listed, position_of, Target, ReadError, Closes, ReadsOne, IsInDataSection, given_at}
 use Rattle.cdl_parse.specs.declared.data_section.DataStatement.{DataStatement}
 use Rattle.cdl_parse.proofs.DataStates.{listed_at, names_are}
 

@@ -1,6 +1,5 @@
 -- What the statements of the data section make of what is listed.
-use Rattle.std.proofs.Common.{◌≡◌, ℕ, zero, suc, ◌+◌, ◌<◌, ◌≤◌, Bool, true, false, List, [], ◌∷◌, length, refl, ap, ◌∙◌, arith, Option, Some, if◌then◌else◌, map, replicate, slice_index_or, slice_set, ℤ}
-use Rattle.cdl_parse.proofs.Prelude.{flat_map, position_from, bytes_eq, bytes_of_number, Dim, Var, Draft, AllList, Lists, unlisted_drafts, AllSuit, Suits, listed_bytes, names_of, with_listed, position_of, Target, given_at}
+use Rattle.cdl_parse.proofs.Prelude.{◌≡◌, ℕ, zero, suc, ◌+◌, ◌<◌, ◌≤◌, Bool, true, false, List, [], ◌∷◌, length, refl, ap, ◌∙◌, arith, Option, Some, if◌then◌else◌, map, replicate, slice_index_or, slice_set, ℤ, flat_map, position_from, bytes_eq, bytes_of_number, Dim, Var, Draft, AllList, Lists, unlisted_drafts, AllSuit, Suits, listed_bytes, names_of, with_listed, position_of, Target, given_at}
 
 -- the drafts have the names of their variables
 pub names_are : (vars : List Var) (arrays : List (List ℕ)) (ds : List Draft) → AllList vars arrays ds → names_of ds ≡ map (λ (var : Var). var.name) vars

@@ -1,6 +1,5 @@
 -- A declaration, token by token.
-use Rattle.std.proofs.Common.{◌≡◌, ℕ, Bool, true, false, List, [], ◌∷◌, ◌++◌, drop, refl, sym, ap, ◌∙◌, Result, Ok, IfOk, ◌&&◌, ◌||◌, not, if◌then◌else◌, arith, rules}
-use Rattle.cdl_parse.proofs.Prelude.{false≢true, is_name, Dim, NcType, Version, Declaration, declaration_said, with_name, completes, is_whole, next, word_value, Lexeme, is_mark, is_mark_kind, Due, AfterVariable, VariableName, BadName, Draft, add_dimid, add_var, ok_or, in_turn, type_of, unless, ContinuesRead, FailsRead, Leaves, ReadError, added, continued, declared, is_open_after, next_dimid, read_on, with_begun, ReadsDimension, is_variable_name, with_new_draft, duplicate_name_or, PartialVariable, ◌>>=◌, ⊤}
+use Rattle.cdl_parse.proofs.Prelude.{◌≡◌, ℕ, Bool, true, false, List, [], ◌∷◌, ◌++◌, drop, refl, sym, ap, ◌∙◌, Result, Ok, IfOk, ◌&&◌, ◌||◌, not, if◌then◌else◌, arith, rules, false≢true, is_name, Dim, NcType, Version, Declaration, declaration_said, with_name, completes, is_whole, next, word_value, Lexeme, is_mark, is_mark_kind, Due, AfterVariable, VariableName, BadName, Draft, add_dimid, add_var, ok_or, in_turn, type_of, unless, ContinuesRead, FailsRead, Leaves, ReadError, added, continued, declared, is_open_after, next_dimid, read_on, with_begun, ReadsDimension, is_variable_name, with_new_draft, duplicate_name_or, PartialVariable, ◌>>=◌, ⊤}
 use Rattle.cdl_statements.specs.code.DueTokens.{is_name as is_name_token}
 use Rattle.cdl_statements.proofs.Declarations.{name_kind}
 use Rattle.cdl_parse.proofs.AttributeReads.{fails_then}

@@ -1,6 +1,5 @@
 -- The dimension of a name is the one at the name's position.
-use Rattle.std.proofs.Common.{◌≡◌, ℕ, ◌+◌, List, [], ◌∷◌, refl, sym, ap, ◌∙◌, Option, Some, if◌then◌else◌}
-use Rattle.cdl_parse.proofs.Prelude.{position, position_from, bytes_eq, Dim, position_of, dim_names}
+use Rattle.cdl_parse.proofs.Prelude.{◌≡◌, ℕ, ◌+◌, List, [], ◌∷◌, refl, sym, ap, ◌∙◌, Option, Some, if◌then◌else◌, position, position_from, bytes_eq, Dim, position_of, dim_names}
 use Rattle.std.proofs.lemmas.Iterator.Adapters.{position_from-zero}
 
 from_names : (i : ℕ) (dims : List Dim) (name : List ℕ) → position_from (λ other. bytes_eq other name) i (dim_names dims) ≡ position_from (λ (d : Dim). bytes_eq d.name name) i dims

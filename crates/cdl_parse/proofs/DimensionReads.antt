@@ -1,7 +1,5 @@
 -- What the tokens of a statement of dimensions make of the dimensions.
-use Rattle.std.proofs.Common.{◌≡◌, ℕ, Bool, true, false, List, [], ◌∷◌, ◌++◌, refl, sym, ap, ◌∙◌, subst, Result, Ok, if◌then◌else◌}
-use Rattle.nc_base.specs.Names.{is_name as is_format_name}
-use Rattle.cdl_parse.proofs.Prelude.{Dim, Version, completes, Lexeme, Dimension, DimensionName, CdlKind, BadName, DuplicateName, first_goes, second_goes, third_goes, on, add_dim, dim_len_of, unless, when, Leaves, ReadError, is_dimension_name, ◌>>=◌, ⊤}
+use Rattle.cdl_parse.proofs.Prelude.{◌≡◌, ℕ, Bool, true, false, List, [], ◌∷◌, ◌++◌, refl, sym, ap, ◌∙◌, subst, Result, Ok, if◌then◌else◌, Dim, Version, completes, Lexeme, Dimension, DimensionName, CdlKind, BadName, DuplicateName, first_goes, second_goes, third_goes, on, add_dim, dim_len_of, unless, when, Leaves, ReadError, is_dimension_name, ◌>>=◌, ⊤, is_name as is_format_name}
 
 -- ---- a dimension
 

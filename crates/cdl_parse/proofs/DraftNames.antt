@@ -1,6 +1,5 @@
 -- The names of variables, and their index.
-use Rattle.std.proofs.Common.{◌≡◌, ℕ, List, [], ◌∷◌, map, refl, sym, ap, ◌∙◌, is_some}
-use Rattle.cdl_parse.proofs.Prelude.{Var, Draft, any_is, unlisted_drafts, names_of, position_of, var_names, draft_of, drafts_of, is_variable_name, var_of, variable_names, Variable}
+use Rattle.cdl_parse.proofs.Prelude.{◌≡◌, ℕ, List, [], ◌∷◌, map, refl, sym, ap, ◌∙◌, is_some, Var, Draft, any_is, unlisted_drafts, names_of, position_of, var_names, draft_of, drafts_of, is_variable_name, var_of, variable_names, Variable}
 
 -- the names of the variables are those of their drafts
 pub names_are : (items : List Variable) → variable_names items ≡ names_of (drafts_of items)

@@ -1,4 +1,5 @@
 -- The names that proofs of this crate cite from elsewhere, passed on from one place.
+pub use Rattle.std.proofs.Common.{◌≡◌, ℕ, true, false, List, ◌∷◌, refl, Ok, map, arith, suc, ◌*◌, ◌/◌, ◌<◌, ◌≤◌, Bool, [], length, sym, ap, ◌∙◌, All, ◌&&◌, if◌then◌else◌, max, nat_le, Option, None, Some, rules, SomeIff, drop, is_some, Result, Err, zero, get_or, set, OnErr, ◌++◌, subst, replicate, pos, nat_lt, ◌-◌, min, ◌+◌, IfOk, ◌||◌, not, slice_set, append_assoc, append-nil, slice_index_or, ℤ, ◌^◌, ap₂}
 pub use Rattle.cdl_statements.specs.Meaning.{array_of, closing_line, dataset_of, empty, has_small_array, header_of, starting_line, meaning, records_in, listed_values}
 pub use Rattle.cdl_statements.proofs.Readings.{checked, shaped}
 unfoldable pub use Rattle.cdl_statements.specs.Meaning.{finished, are_within_limits, piece_read, run}
@@ -24,7 +25,7 @@ pub use Rattle.cdl_statements.proofs.Dues.{only_completes}
 pub use Rattle.cdl_statements.proofs.Listing.{value_first}
 pub use Rattle.cdl_statements.specs.Lexemes.{Lexeme, is_mark, is_mark_kind, is_word_kind, lexeme}
 pub use Rattle.cdl_statements.specs.Shapes.{Close, Dimension, End, Statement, Value, first_bad}
-pub use Rattle.cdl_statements.specs.Pieces.{section_of, statements, step}
+pub use Rattle.cdl_statements.specs.Pieces.{section_of, statements, step, first_role, role_in}
 unfoldable pub use Rattle.cdl_statements.specs.Shapes.{shape}
 pub use Rattle.cdl_statements.specs.code.Contents.{Declaration, attribute_said, dimension_said, is_unlimited, mark_said, other_said, parts_or_zero, variable_said, with_name}
 unfoldable pub use Rattle.cdl_statements.specs.code.Contents.{declaration_said, dimensions_said, statement_said, value_of, values}
@@ -49,7 +50,7 @@ pub use Rattle.cdl_values.specs.code.NameIndices.{IsIndex, is_new, position_of, 
 pub use Rattle.cdl_values.specs.declared.{data.Target.Target, read_error.ReadError.ReadError}
 pub use Rattle.cdl_values.specs.declared.read_error.ReadError.TheVariants.{Fault, OutOfMemory}
 unfoldable pub use Rattle.nc_base.specs.Fill.{fill_value}
-pub use Rattle.nc_base.specs.Headers.{AreDimids}
+pub use Rattle.nc_base.specs.Headers.{AreDimids, IsSound, IsSoundVar}
 pub use Rattle.nc_base.specs.Sizes.{array_limit, is_record_var, slab_count, slab_limit, slab_size}
 pub use Rattle.nc_base.specs.Names.{is_name}
 pub use Rattle.nc_base.specs.Numbers.{bytes_of_number}
@@ -61,9 +62,9 @@ pub use Rattle.std.proofs.lemmas.List.Elements.{All-cons, All-head, All-nil, All
 pub use Rattle.std.specs.List.{concat, flat_map, list_all, position, position_from}
 pub use Rattle.std.specs.Str.{bytes_eq}
 pub use Rattle.std.specs.Vec.Iter.{into_iter_items}
-pub use Rattle.nc_base.proofs.SoundLaws.{some_count, some_product}
+pub use Rattle.nc_base.proofs.SoundLaws.{some_count, some_product, some_size}
 pub use Rattle.cdl_values.proofs.NamePositions.{any_is, new_is}
-pub use Rattle.cdl_values.proofs.AllowedNames.{stopped}
+pub use Rattle.cdl_values.proofs.AllowedNames.{stopped, not_allowed}
 pub use Rattle.nc_base.proofs.FilePlaces.{length-numbers}
 pub use Rattle.std.specs.Prelude.{⊤}
 pub use Rattle.cdl_statements.proofs.ListedValues.{AreFit, piece_fit}

@@ -1,6 +1,5 @@
 -- A run over the statements that a cutter has left, one statement on.
-use Rattle.std.proofs.Common.{◌≡◌, ℕ, ◌<◌, false, length, sym, ap, ◌∙◌, arith, Ok, Err}
-use Rattle.cdl_parse.proofs.Prelude.{after, first_line, is_done, pieces_left, text_of, version_of, words, Cutter, CdlKind, piece_read, run, State, FailsRead, ReadError, FailsAt, at_line, run_after}
+use Rattle.cdl_parse.proofs.Prelude.{◌≡◌, ℕ, ◌<◌, false, length, sym, ap, ◌∙◌, arith, Ok, Err, after, first_line, is_done, pieces_left, text_of, version_of, words, Cutter, CdlKind, piece_read, run, State, FailsRead, ReadError, FailsAt, at_line, run_after}
 use Rattle.cdl_parse.proofs.Runs.{run_first}
 use Rattle.cdl_parse.proofs.StatementWords.{begins}
 

@@ -1,6 +1,5 @@
 -- A run over statements, one statement on.
-use Rattle.std.proofs.Common.{◌≡◌, ℕ, true, false, List, ◌∷◌, refl, Ok, map, arith}
-use Rattle.cdl_parse.proofs.Prelude.{Version, after, first_line, first_piece, is_done, other_pieces, next_token, pieces_left, text_of, words, Lexeme, lexeme, pieces_after, Cutter, Token, starting_line, piece_read, run, State, run_after}
+use Rattle.cdl_parse.proofs.Prelude.{◌≡◌, ℕ, true, false, List, ◌∷◌, refl, Ok, map, arith, Version, after, first_line, first_piece, is_done, other_pieces, next_token, pieces_left, text_of, words, Lexeme, lexeme, pieces_after, Cutter, Token, starting_line, piece_read, run, State, run_after}
 use Rattle.cdl_parse.proofs.StatementWords.{begins}
 
 pub line_is : (p : List Token) (ps : List (List Token)) → first_line (p ∷ ps) ≡ starting_line p

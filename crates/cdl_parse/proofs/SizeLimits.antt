@@ -1,11 +1,7 @@
 -- What is listed keeps its limits where its slabs, its records and the header do.
-use Rattle.std.proofs.Common.{◌≡◌, ℕ, suc, ◌*◌, ◌/◌, ◌<◌, ◌≤◌, Bool, true, false, List, [], ◌∷◌, length, map, refl, sym, ap, ◌∙◌, arith, All, ◌&&◌, if◌then◌else◌, max, nat_le, Option, None, Some, rules}
-use Rattle.cdl_parse.proofs.Prelude.{flat_map, list_all, All-cons, All-head, All-nil, All-tail, Dim, Var, AreDimids, bytes_of_number, is_record_var, slab_count, slab_size, slab_limit, array_limit, is_within_limits, records_in, listed_values, Draft, AllList, AreShaped, records_for, records_kept, records_within, with_all, RecordNeeds, le-leb, some_count, some_product, length-numbers}
+use Rattle.cdl_parse.proofs.Prelude.{◌≡◌, ℕ, suc, ◌*◌, ◌/◌, ◌<◌, ◌≤◌, Bool, true, false, List, [], ◌∷◌, length, map, refl, sym, ap, ◌∙◌, arith, All, ◌&&◌, if◌then◌else◌, max, nat_le, Option, None, Some, rules, flat_map, list_all, All-cons, All-head, All-nil, All-tail, Dim, Var, AreDimids, bytes_of_number, is_record_var, slab_count, slab_size, slab_limit, array_limit, is_within_limits, records_in, listed_values, Draft, AllList, AreShaped, records_for, records_kept, records_within, with_all, RecordNeeds, le-leb, some_count, some_product, length-numbers, some_size}
 use Rattle.std.proofs.Math.Nat.{mul-div_cancel, mul-le-mul_left, mul_comm, mul_right_comm}
 use Rattle.nc_base.specs.Types.{size_of}
-use Rattle.nc_base.proofs.SoundLaws.{some_size}
-
--- ---- a slab has a value
 
 -- ---- what is listed, as bytes
 
@@ -73,13 +69,8 @@ with_all_is dims (d ∷ drafts) e =
         with_all dims (if small then Some (if growing then record { records = max e.records n; widest = max e.widest w } else e) else None) (map var_of drafts) (map listed_of drafts) ≡
         reached (small && list_all (has_small dims) drafts) (max e.records (max (if growing then n else 0) (records_in dims drafts))) (max e.widest (max (if growing then w else 0) (widest_in dims drafts)))
     by false growing more = refl
-    by true true more =
-        more (record { records = max e.records n; widest = max e.widest w }) ∙
-        ap (λ k. reached (list_all (has_small dims) drafts) k (max (max e.widest w) (widest_in dims drafts))) (max_assoc e.records n (records_in dims drafts)) ∙
-        ap (λ k. reached (list_all (has_small dims) drafts) (max e.records (max n (records_in dims drafts))) k) (max_assoc e.widest w (widest_in dims drafts))
-    by true false more =
-        more e ∙ ap (λ k. reached (list_all (has_small dims) drafts) k (max e.widest (widest_in dims drafts))) (max_zero e.records (records_in dims drafts)) ∙
-        ap (λ k. reached (list_all (has_small dims) drafts) (max e.records (max 0 (records_in dims drafts))) k) (max_zero e.widest (widest_in dims drafts))
+    by true true more = grind (arith, max_assoc, more (record { records = max e.records n; widest = max e.widest w }))
+    by true false more = grind (arith, max_zero, more e)
 
 -- ---- the arrays over n records
 

@@ -1,7 +1,5 @@
 -- The tokens of a statement, one at a time.
-use Rattle.std.proofs.Common.{◌≡◌, Bool, true, false, List, [], ◌∷◌, refl, ap, ◌∙◌, if◌then◌else◌, map, rules}
-use Rattle.cdl_parse.proofs.Prelude.{false≢true, first_piece, is_done, next_token, pieces_left, text_of, tokens_left, words, completes, is_whole, next, next_if, Lexeme, lexeme, pieces_after, step, Cutter, Due, Token, only_completes}
-use Rattle.cdl_statements.specs.Pieces.{first_role, role_in}
+use Rattle.cdl_parse.proofs.Prelude.{◌≡◌, Bool, true, false, List, [], ◌∷◌, refl, ap, ◌∙◌, if◌then◌else◌, map, rules, false≢true, first_piece, is_done, next_token, pieces_left, text_of, tokens_left, words, completes, is_whole, next, next_if, Lexeme, lexeme, pieces_after, step, Cutter, Due, Token, only_completes, first_role, role_in}
 use Rattle.cdl_tokens.specs.code.Scanners.{followed, left}
 use Rattle.cdl_tokens.specs.declared.token.TokenKind.{TokenKind}
 use Rattle.cdl_tokens.specs.declared.token.TokenKind.TheVariants as kinds

@@ -1,6 +1,5 @@
 -- A taken name comes before the faults after it.
-use Rattle.std.proofs.Common.{◌≡◌, Bool, true, false, refl, Result, arith}
-use Rattle.cdl_parse.proofs.Prelude.{CdlKind, BadName, DuplicateName, unless, when, FailsRead, ReadError, duplicate_name_or, ◌>>=◌}
+use Rattle.cdl_parse.proofs.Prelude.{◌≡◌, Bool, true, false, refl, Result, arith, CdlKind, BadName, DuplicateName, unless, when, FailsRead, ReadError, duplicate_name_or, ◌>>=◌}
 
 pub fails_after : {A : Type 0} (taken : Bool) (e : ReadError) (read : Result A CdlKind) → FailsRead e read → FailsRead (duplicate_name_or taken e) (when taken DuplicateName >>= (λ u. read))
 fails_after taken e read h = grind arith

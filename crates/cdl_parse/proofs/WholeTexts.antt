@@ -1,6 +1,5 @@
 -- A whole text: its sections one after the other.
-use Rattle.std.proofs.Common.{◌≡◌, ℕ, suc, true, false, List, [], ◌∷◌, length, refl, sym, ap, ◌∙◌, subst, arith, Result, replicate}
-use Rattle.cdl_parse.proofs.Prelude.{All-cons, AreDimids, Dim, Var, Version, Section, Values, Token, finished, run, State, Draft, AllList, AreShaped, unlisted_drafts, is_before_data, is_over, FailsAt, ParseError, names_of, var_names}
+use Rattle.cdl_parse.proofs.Prelude.{◌≡◌, ℕ, suc, true, false, List, [], ◌∷◌, length, refl, sym, ap, ◌∙◌, subst, arith, Result, replicate, All-cons, AreDimids, Dim, Var, Version, Section, Values, Token, finished, run, State, Draft, AllList, AreShaped, unlisted_drafts, is_before_data, is_over, FailsAt, ParseError, names_of, var_names}
 use Rattle.cdl_parse.proofs.DraftNames.{unlisted_names}
 use Rattle.cdl_statements.specs.declared.fault.CdlFault.{CdlFault}
 

@@ -1,6 +1,5 @@
 -- Numbers that are printed a few at a time.
-use Rattle.std.proofs.Common.{◌≡◌, ℕ, ℤ, zero, suc, ◌+◌, ◌*◌, ◌/◌, ◌<◌, ◌≤◌, min, List, [], ◌∷◌, ◌++◌, length, take, drop, sym, ◌∙◌, ap, arith, length-take, append-nil, rules}
-use Rattle.cdl_print.proofs.Prelude.{take-take, drop-take, drop-drop, take_all, length-drop, div-mul-le_self, le_of_mul-le-mul_right, mul-le-mul_right, mul-div_cancel, number_of, numbers, size_of, NcType, some_size}
+use Rattle.cdl_print.proofs.Prelude.{◌≡◌, ℕ, ℤ, zero, suc, ◌+◌, ◌*◌, ◌/◌, ◌<◌, ◌≤◌, min, List, [], ◌∷◌, ◌++◌, length, take, drop, sym, ◌∙◌, ap, arith, length-take, append-nil, rules, take-take, drop-take, drop-drop, take_all, length-drop, div-mul-le_self, le_of_mul-le-mul_right, mul-le-mul_right, mul-div_cancel, number_of, numbers, size_of, NcType, some_size}
 use Rattle.cdl_print.proofs.Joined.{numbers-cons, numbers-none}
 use Rattle.cdl_print.proofs.Takes.{length-numbers}
 

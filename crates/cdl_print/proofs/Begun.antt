@@ -1,6 +1,5 @@
 -- A text that is written from the prefix on, with what is left of it.
-use Rattle.std.proofs.Common.{◌≡◌, ℕ, List, [], ◌++◌, sym, subst, append_assoc, ap, ◌∙◌, refl, arith}
-use Rattle.cdl_print.proofs.Prelude.{append-nil, OnTrue_from, SinkView, Appended, FailedPartway, append-none, appended_then, appended_partway}
+use Rattle.cdl_print.proofs.Prelude.{◌≡◌, ℕ, List, [], ◌++◌, sym, subst, append_assoc, ap, ◌∙◌, refl, arith, append-nil, OnTrue_from, SinkView, Appended, FailedPartway, append-none, appended_then, appended_partway}
 
 -- the sink has taken the whole text but for the rest
 pub record IsBegun (old now : SinkView) (rest whole : List ℕ) : Type 0 where

@@ -1,7 +1,5 @@
 -- The characters of a variable, some after others.
-use Rattle.std.proofs.Common.{◌≡◌, ℕ, suc, ℤ, pos, ◌+◌, ◌-◌, ◌%◌, ◌<◌, ◌≤◌, true, cond, ◌&&◌, List, [], ◌∷◌, ◌++◌, length, map, take, drop, replicate, sym, ◌/◌, ◌∙◌, ap, refl, subst, arith, append_assoc, length-append, Result, Ok, Err, ◌==◌, OnOk, rules}
-use Rattle.std.proofs.lemmas.List.{replicate-append-replicate}
-use Rattle.cdl_print.proofs.Prelude.{false≢true, cond-false, cond-true, nat_tests, nil_from_length, length-map, map-append, append-nil, take-append-drop, escaped_text, numbers, numbers_from, variable_prefix, Look, is_char, begins_row, char_lead, char_text, char_piece, held, piece, pieces, later_pieces, NcType, Char, place-add, held_other, held_nul, held_first, held_untrimmed, SinkView, Written, next_char_lead, shown, part_text, part_bytes, row_index_after_part, held_after, IsAfterPart, IsAfter, values_after, IsAfterNext, WrittenNext, Progress, escaped-append, flat_map, escaped_in_string}
+use Rattle.cdl_print.proofs.Prelude.{◌≡◌, ℕ, suc, ℤ, pos, ◌+◌, ◌-◌, ◌%◌, ◌<◌, ◌≤◌, true, cond, ◌&&◌, List, [], ◌∷◌, ◌++◌, length, map, take, drop, replicate, sym, ◌/◌, ◌∙◌, ap, refl, subst, arith, append_assoc, length-append, Result, Ok, Err, ◌==◌, OnOk, rules, false≢true, cond-false, cond-true, nat_tests, length-map, map-append, append-nil, take-append-drop, escaped_text, numbers, numbers_from, variable_prefix, Look, is_char, begins_row, char_lead, char_text, char_piece, held, piece, pieces, later_pieces, NcType, Char, place-add, held_other, held_nul, held_first, held_untrimmed, SinkView, Written, next_char_lead, shown, part_text, part_bytes, row_index_after_part, held_after, IsAfterPart, IsAfter, values_after, IsAfterNext, WrittenNext, Progress, escaped-append, flat_map, escaped_in_string, replicate-append-replicate}
 use Rattle.cdl_print.proofs.Begun.{IsBegun, begun_at_first}
 use Rattle.cdl_print.proofs.TrailingNuls.{without-cons}
 
@@ -182,6 +180,3 @@ chars_parts ty n rest prefix back is f b =
 -- as many numbers as characters
 pub chars_count : (ty : NcType) (bytes : List ℕ) → is_char ty ≡ true → length (numbers ty bytes) ≡ length bytes
 chars_count ty bytes is = ap length (sym (chars_are ty bytes is)) ∙ length-map bytes pos
-
-pub no_chars : (ty : NcType) (bytes : List ℕ) → is_char ty ≡ true → length bytes ≡ 0 → numbers ty bytes ≡ []
-no_chars ty bytes is none = sym (chars_are ty bytes is) ∙ ap (map pos) (nil_from_length bytes none)

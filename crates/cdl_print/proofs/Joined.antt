@@ -1,7 +1,5 @@
 -- Lists with a comma between each two: the numbers of an attribute, and the dimensions of a shape.
-use Rattle.std.proofs.Common.{◌≡◌, ℕ, ℤ, ◌-◌, ◌/◌, ◌<◌, ◌≤◌, ◌==◌, Bool, List, [], ◌∷◌, ◌++◌, length, take, drop, map, refl, ap, ◌∙◌, arith, suc, if◌then◌else◌, codes, append_assoc, add-one, nat_lt}
-use Rattle.cdl_print.proofs.Prelude.{append-nil, length-drop, length-map, nat_tests, signed_decimal, NcType, concat_parts, dim_name, joined, numbers_text, number_suffix, number_of, numbers, numbers_from, size_of, dim_text, div-eq-sub-div, div-eq_of_lt, some_size}
-use Rattle.nc_base.specs.declared.header.Dim.{Dim}
+use Rattle.cdl_print.proofs.Prelude.{◌≡◌, ℕ, ℤ, ◌-◌, ◌/◌, ◌<◌, ◌≤◌, ◌==◌, Bool, List, [], ◌∷◌, ◌++◌, length, take, drop, map, refl, ap, ◌∙◌, arith, suc, if◌then◌else◌, codes, append_assoc, add-one, nat_lt, append-nil, length-drop, length-map, nat_tests, signed_decimal, NcType, concat_parts, dim_name, joined, numbers_text, number_suffix, number_of, numbers, numbers_from, size_of, dim_text, div-eq-sub-div, div-eq_of_lt, some_size, Dim}
 use Rattle.cdl_print.specs.code.Pieces.{number_text}
 
 -- what stands after a piece
@@ -29,6 +27,9 @@ numbers-cons ty bytes le = numbers_from-cons ty (length bytes / size_of ty) (len
 pub numbers-none : (ty : NcType) (bytes : List ℕ) → length bytes < size_of ty → numbers ty bytes ≡ []
 unfolding numbers
 numbers-none ty bytes lt = rw (div-eq_of_lt lt) refl
+
+pub no_numbers : (ty : NcType) (bytes : List ℕ) → length bytes ≡ 0 → numbers ty bytes ≡ []
+no_numbers ty bytes none = numbers-none ty bytes (omega (arith, none, some_size ty))
 
 pub number_values-none : (ty : NcType) (bytes : List ℕ) → length bytes < size_of ty → numbers_text ty bytes ≡ []
 unfolding numbers_text

@@ -1,11 +1,6 @@
 -- Vectors of 16 bytes, and which of them need an escape.
-use Rattle.std.proofs.Common.{◌≡◌, ℕ, ◌+◌, ◌*◌, ◌/◌, ◌%◌, ◌^◌, ◌<◌, ◌≤◌, zero, suc, Bool, true, false, ◌&&◌, cond, eqb, List, [], ◌∷◌, ◌++◌, map, length, take, drop, get_or, replicate, bit_and, refl, sym, ap, ap₂, ◌∙◌, arith, w8, Fits}
-use Rattle.std.proofs.lemmas.Bool.{agree_below, agree_below_at}
-use Rattle.std.proofs.lemmas.List.Folds.{list_all-append}
+use Rattle.cdl_print.proofs.Prelude.{◌≡◌, ℕ, ◌+◌, ◌%◌, ◌^◌, ◌<◌, ◌≤◌, zero, suc, Bool, true, false, ◌&&◌, cond, eqb, List, [], ◌∷◌, ◌++◌, map, length, take, drop, get_or, replicate, bit_and, refl, sym, ap, ap₂, ◌∙◌, arith, w8, Fits, list_all, prefix_len, drop-take, length-map, length-take-le, take-take, Each1-all, Each1-zip2, Each2-splat, length-zip2, SwzOk, SwzOk-from_below, swz_l, get_or-swz_l_below, zip2_splat, mask_l-mod, take-add, take-append-add, drop-append_seam, list_all-append, agree_below, agree_below_at}
 use Rattle.std.proofs.lemmas.Nat.{and_le_r}
-use Rattle.std.proofs.lemmas.Simd.{Each1-all, Each1-zip2, Each2-splat, length-zip2, SwzOk, SwzOk-from_below, swz_l, get_or-swz_l_below, zip2_splat, mask_l-mod}
-use Rattle.std.proofs.Math.Seq.{take-add, take-append-add, drop-append_seam}
-use Rattle.cdl_print.proofs.Prelude.{list_all, prefix_len, drop-take, length-map, length-take-le, take-take}
 use lib.Lanes.{mask_l, top, zip2, Each1}
 
 -- ---- lanes that are computed one by one, and that are set just where p holds
@@ -42,8 +37,7 @@ itself (x ∷ xs) = ap (λ l. x ∷ l) (itself xs)
 reads : (t v : List ℕ) (i : ℕ) → i + length v ≤ 16 → swz_l w8 16 t i (map low v) ≡ map (λ x. get_or t (low x) 0) v
 reads t [] i few = refl
 reads t (x ∷ xs) i few =
-    let place : 16 * ((i + 0) / 16) + low x ≡ low x = omega arith in
-    ap₂ (λ a b. a ∷ b) (get_or-swz_l_below w8 16 t i (low x ∷ map low xs) 0 (omega arith) (low_below x) ∙ ap (λ k. get_or t k 0) place) (reads t xs (suc i) (omega arith))
+    grind (arith, get_or-swz_l_below, low_below, reads t xs (suc i))
 
 pub looked_up : (t v : List ℕ) → length v ≡ 16 → swz_l w8 16 t 0 (zip2 bit_and v (replicate 16 15)) ≡ map (λ x. get_or t (low x) 0) v
 looked_up t v long = let lows : zip2 bit_and v (replicate 16 15) ≡ map low v = zip2_splat bit_and v 16 15 long in ap (swz_l w8 16 t 0) lows ∙ reads t v 0 (omega arith)

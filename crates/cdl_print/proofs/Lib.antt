@@ -7,7 +7,6 @@ pub mod PrintingLaws
 pub mod TrailingNuls
 pub mod CharRows
 pub mod Openings
-pub mod PrinterLaws
 pub mod Takes
 pub mod Batches
 pub mod Prelude

@@ -1,6 +1,5 @@
 -- The numbers of a variable, one after another.
-use Rattle.std.proofs.Common.{◌≡◌, ℕ, ℤ, pos, unsigned_abs, ◌+◌, ◌-◌, ◌<◌, ◌≤◌, Bool, true, false, cond, not, List, [], ◌∷◌, ◌++◌, length, sym, ◌∙◌, ap, refl, subst, arith, append_assoc, append-nil, length-append, nat_lt, Result, codes, ◌==◌, ◌&&◌, unwrap_or, rules}
-use Rattle.cdl_print.proofs.Prelude.{decimal, OnTrue_at, OnTrue_from, false≢true, cond-false, lt-ltb, nat_tests, Look, is_char, column, number_text, number_lead, line_break, number_piece, piece, variable_prefix, later_pieces, prefix-append, later_one, column-flat, column-broken, number_flat, place-add, SinkView, append, is_transparent, Appended, Written, IsFillOf, shows_below_100, lead_bytes, row_lead, lead_in_row, next_number_lead, columns_left_after, gathered, number_bytes, bytes_in_row, columns_left_in_row, text_in_row, columns_left_after_text, IsAfterNumber, IsAfter, values_after, NextValues, IsAfterNext, AppendedNext, WrittenNext, PrintedInRow, PutAt, PutInRow, Progress}
+use Rattle.cdl_print.proofs.Prelude.{◌≡◌, ℕ, ℤ, pos, unsigned_abs, ◌+◌, ◌-◌, ◌<◌, ◌≤◌, Bool, true, false, cond, not, List, [], ◌∷◌, ◌++◌, length, sym, ◌∙◌, ap, refl, subst, arith, append_assoc, append-nil, length-append, nat_lt, Result, codes, ◌==◌, ◌&&◌, unwrap_or, rules, decimal, OnTrue_at, OnTrue_from, false≢true, cond-false, lt-ltb, nat_tests, Look, is_char, column, number_text, number_lead, line_break, number_piece, piece, variable_prefix, later_pieces, prefix-append, later_one, column-flat, column-broken, number_flat, place-add, SinkView, append, is_transparent, Appended, Written, IsFillOf, shows_below_100, lead_bytes, row_lead, lead_in_row, next_number_lead, columns_left_after, gathered, number_bytes, bytes_in_row, columns_left_in_row, text_in_row, columns_left_after_text, IsAfterNumber, IsAfter, values_after, NextValues, IsAfterNext, AppendedNext, WrittenNext, PrintedInRow, PutAt, PutInRow, Progress}
 use Rattle.cdl_print.proofs.PrintingLaws.{after_then, next_appended, none_appended}
 use Rattle.cdl_print.specs.declared.{lead.Lead.Lead, number_line.LastLine.LastLine, printed_fill.PrintedFill.PrintedFill}
 use Rattle.cdl_print.specs.declared.lead.Lead.TheVariants.{Comma, NewLine}

@@ -1,6 +1,5 @@
 -- How long the line is after a name.
-use Rattle.std.proofs.Common.{◌≡◌, ℕ, ◌+◌, ◌-◌, ◌<◌, Bool, cond, List, [], ◌∷◌, ◌++◌, length, take, get_or, ap, refl, arith, append_assoc, append-nil, codes, ◌||◌}
-use Rattle.cdl_print.proofs.Prelude.{flat_map, flat_map-append, take_all, take_more, concat_parts, begins_with_digit_or_mark, escaped_in_name, escaped_name, is_reserved, column, column-flat, prefix_escape}
+use Rattle.cdl_print.proofs.Prelude.{◌≡◌, ℕ, ◌+◌, ◌-◌, ◌<◌, Bool, cond, List, [], ◌∷◌, ◌++◌, length, take, get_or, ap, refl, arith, append_assoc, append-nil, codes, ◌||◌, flat_map, flat_map-append, take_all, take_more, concat_parts, begins_with_digit_or_mark, escaped_in_name, escaped_name, is_reserved, column, column-flat, prefix_escape}
 
 -- the opening up to n bytes of the name
 abbrev pub name_prefix : List ℕ → ℕ → List ℕ

@@ -1,6 +1,5 @@
 -- Values that are printed after others.
-use Rattle.std.proofs.Common.{◌≡◌, ℤ, ◌+◌, List, [], ◌++◌, length, sym, ◌∙◌, ap, refl, subst, arith, append_assoc, length-append, append-nil, rules}
-use Rattle.cdl_print.proofs.Prelude.{Look, later-append, later_none, SinkView, appended_then, appended_partway, values_after, IsAfterNext, AppendedNext, FailedInNext, Progress}
+use Rattle.cdl_print.proofs.Prelude.{◌≡◌, ℤ, ◌+◌, List, [], ◌++◌, length, sym, ◌∙◌, ap, refl, subst, arith, append_assoc, length-append, append-nil, rules, Look, later-append, later_none, SinkView, appended_then, appended_partway, values_after, IsAfterNext, AppendedNext, FailedInNext, Progress}
 use Rattle.cdl_print.proofs.Begun.{appended_none}
 
 -- ---- no value

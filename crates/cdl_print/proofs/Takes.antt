@@ -1,7 +1,5 @@
 -- How many values n bytes are, and when a printer takes them.
-use Rattle.std.proofs.Common.{◌≡◌, ℕ, ◌+◌, ◌/◌, ◌%◌, ◌≤◌, List, length, rules}
-use Rattle.cdl_print.proofs.Prelude.{numbers, size_of, NcType, look_in, position_of, Takes, ValuePrinter, length-numbers_from}
-use Rattle.nc_base.proofs.SoundLaws.{whole_part}
+use Rattle.cdl_print.proofs.Prelude.{◌≡◌, ℕ, ◌+◌, ◌/◌, ◌%◌, ◌≤◌, List, length, rules, numbers, size_of, NcType, look_in, position_of, Takes, ValuePrinter, length-numbers_from, whole_part}
 
 pub length-numbers : (ty : NcType) (bytes : List ℕ) → length (numbers ty bytes) ≡ length bytes / size_of ty
 unfolding numbers

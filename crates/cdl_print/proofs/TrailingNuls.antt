@@ -1,11 +1,5 @@
 -- The NULs at the end of some bytes.
-use Rattle.std.proofs.Common.{◌≡◌, ℕ, suc, ◌+◌, ◌-◌, ◌≤◌, true, cond, ◌&&◌, List, [], ◌∷◌, ◌++◌, length, take, drop, reverse, sym, ◌∙◌, ap, arith, append_assoc, length-take, ◌==◌}
-use Rattle.std.specs.List.{suffix_len}
-use Rattle.std.proofs.lemmas.List.Folds.{prefix_len-append}
-use Rattle.std.proofs.lemmas.List.Sums.{suffix_len-le-length}
-use Rattle.std.proofs.lemmas.List.{reverse-append, length-reverse}
-use Rattle.nc_base.specs.HeadText.{without_trailing_nuls}
-use Rattle.cdl_print.proofs.Prelude.{append-nil, list_all, prefix_len, nat_tests, and_parts, take-append-drop}
+use Rattle.cdl_print.proofs.Prelude.{◌≡◌, ℕ, suc, ◌+◌, ◌-◌, ◌≤◌, true, cond, ◌&&◌, List, [], ◌∷◌, ◌++◌, length, take, drop, reverse, sym, ◌∙◌, ap, arith, append_assoc, length-take, ◌==◌, append-nil, list_all, prefix_len, nat_tests, and_parts, take-append-drop, without_trailing_nuls, prefix_len-append, suffix_len, reverse-append, length-reverse, suffix_len-le-length}
 
 abbrev pub nuls_at_end : List ℕ → ℕ
 nuls_at_end = suffix_len (λ b. b == 0)
@@ -27,9 +21,7 @@ without-cons b xs = take_from b xs (nuls_at_end xs) (nuls_at_end (b ∷ xs)) (su
 nuls_after : (xs nuls : List ℕ) → list_all (λ b. b == 0) nuls ≡ true → nuls_at_end (xs ++ nuls) ≡ length nuls + nuls_at_end xs
 nuls_after xs [] all = let e = ap nuls_at_end (append-nil xs) in omega (arith, e)
 nuls_after xs (b ∷ nuls) all =
-    let parts = and_parts (b == 0) (list_all (λ c. c == 0) nuls) all in
-    let one : nuls_at_end (xs ++ b ∷ []) ≡ cond (b == 0) (1 + nuls_at_end xs) 0 = ap (prefix_len (λ c. c == 0)) (reverse-append xs (b ∷ [])) in
-    ap nuls_at_end (sym (append_assoc xs (b ∷ []) nuls)) ∙ grind (arith, nuls_after (xs ++ b ∷ []) nuls parts.1, one, parts.0)
+    grind (arith, and_parts, append_assoc, reverse-append, nuls_after (xs ++ b ∷ []) nuls)
 
 -- a block of NULs at the end
 pub nul_block : (n : ℕ) (bytes others block : List ℕ) → others ≡ take n bytes → block ≡ drop n bytes → list_all (λ b. b == 0) block ≡ true

@@ -1,6 +1,5 @@
 -- The pieces, one token on.
-use Rattle.std.proofs.Common.{◌≡◌, drop, ℕ, Bool, true, false, List, [], ◌∷◌, ◌++◌, sym, ◌∙◌, ap, refl, append_assoc, if◌then◌else◌, map, arith, rules}
-use Rattle.cdl_statements.proofs.Prelude.{false≢true, Step, Token, TokenKind, Role, CutState, is_end_role, role_in, pieces_after, step, with_first, first_line, first_piece, other_pieces, followed, is_end, lexeme}
+use Rattle.cdl_statements.proofs.Prelude.{◌≡◌, drop, ℕ, Bool, true, false, List, [], ◌∷◌, ◌++◌, sym, ◌∙◌, ap, refl, append_assoc, if◌then◌else◌, map, arith, rules, false≢true, Step, Token, TokenKind, Role, CutState, is_end_role, role_in, pieces_after, step, with_first, first_line, first_piece, other_pieces, followed, is_end, lexeme}
 use Rattle.cdl_statements.specs.declared.piece.Role.TheVariants.{End}
 
 by_kind : (f : Token → Role) (state : CutState) (t u : Token) (k : TokenKind) (before after : List Token) → before ≡ followed u u.kind after → (is_end k ≡ true → f t ≡ End) →

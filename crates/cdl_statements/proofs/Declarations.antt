@@ -1,6 +1,5 @@
 -- Declarations: the table of due tokens says whether one has its shape, and what it says stands in its tokens.
-use Rattle.std.proofs.Common.{◌≡◌, ℕ, Bool, true, false, List, [], ◌∷◌, refl, sym, ap, ◌∙◌, if◌then◌else◌, ◌&&◌, ◌||◌, not, arith, rules}
-use Rattle.cdl_statements.proofs.Prelude.{option_map, Declaration, with_name, declaration_said, next_if, separator, next, completes, is_name, word_value, Lexeme, is_mark, is_mark_kind, Variable, variables, in_parentheses, after_member, if_so}
+use Rattle.cdl_statements.proofs.Prelude.{◌≡◌, ℕ, Bool, true, false, List, [], ◌∷◌, refl, sym, ap, ◌∙◌, if◌then◌else◌, ◌&&◌, ◌||◌, not, arith, rules, option_map, Declaration, with_name, declaration_said, next_if, separator, next, completes, is_name, word_value, Lexeme, is_mark, is_mark_kind, Variable, variables, in_parentheses, after_member, if_so}
 use Rattle.cdl_statements.specs.declared.due.Due.TheVariants as dues
 use Rattle.cdl_statements.proofs.Dues.{never_completes, nothing_more, kind_of_mark, one_mark, due_for, map_due, only_due, either_due, name_due, member_due}
 

@@ -1,7 +1,5 @@
 -- A list of dimensions, one dimension on.
-use Rattle.std.proofs.Common.{◌≡◌, Bool, true, false, List, [], ◌∷◌, refl, ◌∙◌, if◌then◌else◌, arith, rules}
-use Rattle.cdl_statements.proofs.Prelude.{false≢true, Version, dimensions_said, dimension_said, completes, next, Lexeme, and_right}
-use Rattle.cdl_statements.specs.declared.due.Due.TheVariants.{DimensionName}
+use Rattle.cdl_statements.proofs.Prelude.{◌≡◌, Bool, true, false, List, [], ◌∷◌, refl, ◌∙◌, if◌then◌else◌, arith, rules, false≢true, Version, dimensions_said, dimension_said, completes, next, Lexeme, and_right, DimensionName}
 use Rattle.cdl_statements.proofs.Dimensions.{completes_one, completes_two, completes_three, four, separator_more}
 
 -- no dimension ends after its first, second or third token

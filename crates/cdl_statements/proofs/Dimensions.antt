@@ -1,6 +1,5 @@
 -- Lists of dimensions: the table of due tokens says whether one has its shape, and what it says stands in its tokens.
-use Rattle.std.proofs.Common.{◌≡◌, ℕ, Bool, false, List, [], ◌∷◌, refl, sym, ap, ◌∙◌, None, Some, if◌then◌else◌, ◌&&◌, is_none, arith, rules}
-use Rattle.cdl_statements.proofs.Prelude.{Version, length_said, dimension_said, dimensions_said, next, completes, is_name, is_length, Lexeme, is_mark, parts, number, numeral, dimension, dimensions, after_member, length_of, token_fault, first_bad, TokenKind}
+use Rattle.cdl_statements.proofs.Prelude.{◌≡◌, ℕ, Bool, false, List, [], ◌∷◌, refl, sym, ap, ◌∙◌, None, Some, if◌then◌else◌, ◌&&◌, is_none, arith, rules, Version, length_said, dimension_said, dimensions_said, next, completes, is_name, is_length, Lexeme, is_mark, parts, number, numeral, dimension, dimensions, after_member, length_of, token_fault, first_bad, TokenKind}
 use Rattle.cdl_statements.specs.declared.due.Due.TheVariants as dues
 use Rattle.cdl_statements.proofs.Dues.{fine, fine_on, never_completes, nothing_more, only_completes, name_is, due_for, both_due, member_due}
 

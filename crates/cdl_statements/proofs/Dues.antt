@@ -1,6 +1,5 @@
 -- What is said where the table of due tokens says that a statement is whole.
-use Rattle.std.proofs.Common.{◌≡◌, ℕ, Bool, true, false, List, [], ◌∷◌, refl, Option, None, Some, if◌then◌else◌, ◌&&◌, ◌==◌, arith, rules}
-use Rattle.cdl_statements.proofs.Prelude.{option_map, option_and_then, Version, token_fault, first_bad, completes, next, next_if, separator, is_name, word_value, Lexeme, is_mark, is_mark_kind, name_of, both, if_so, at_end, after_member, Due}
+use Rattle.cdl_statements.proofs.Prelude.{◌≡◌, ℕ, Bool, true, false, List, [], ◌∷◌, refl, Option, None, Some, if◌then◌else◌, ◌&&◌, ◌==◌, arith, rules, option_map, option_and_then, Version, token_fault, first_bad, completes, next, next_if, separator, is_name, word_value, Lexeme, is_mark, is_mark_kind, name_of, both, if_so, at_end, after_member, Due}
 use Rattle.cdl_statements.specs.declared.due.Due.TheVariants as dues
 
 -- ---- no bad token

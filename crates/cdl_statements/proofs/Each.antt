@@ -1,5 +1,5 @@
 -- Lists, one element at a time.
-use Rattle.std.proofs.Common.{ℕ, suc, List, [], ◌∷◌, ◌++◌, arith, All, take, drop}
+use Rattle.cdl_statements.proofs.Prelude.{ℕ, suc, List, [], ◌∷◌, ◌++◌, arith, All, take, drop}
 
 -- P holds of each element
 abbrev pub Each : {X : Type 0} → (X → Type 0) → List X → Type 0

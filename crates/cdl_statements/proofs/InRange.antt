@@ -1,8 +1,7 @@
 -- A number is in a type's range where the type has it.
-use Rattle.std.proofs.Common.{◌≡◌, ℤ, true, arith}
+use Rattle.cdl_statements.proofs.Prelude.{◌≡◌, ℤ, true, arith, has_number}
 use Rattle.nc_base.specs.declared.nc_type.NcType.{NcType}
 use Rattle.nc_base.specs.NumberLaws.{IsInRange}
-use Rattle.cdl_statements.specs.State.{has_number}
 
 pub has_it : (ty : NcType) (n : ℤ) → has_number ty n ≡ true → IsInRange ty n
 unfolding has_number

@@ -1,7 +1,6 @@
 -- A cutter inside of a list, one token and a comma on.
-use Rattle.std.proofs.Common.{◌≡◌, ◌<◌, ℕ, Bool, true, false, List, [], ◌∷◌, sym, ◌∙◌, ap, refl, map, slice_index, if◌then◌else◌, rules}
+use Rattle.cdl_statements.proofs.Prelude.{◌≡◌, ◌<◌, ℕ, Bool, true, false, List, [], ◌∷◌, sym, ◌∙◌, ap, refl, map, slice_index, if◌then◌else◌, rules, followed, left, raw, Token, after, first_piece, offset_of, other_pieces, pieces_left, text_of, words, is_mark, lexeme, role_in, pieces_after, with_first, IsAtComma, Passes, Cutter, CutState, Inside, Other}
 use Rattle.cdl_tokens.specs.code.PlainTokens.{IsComma}
-use Rattle.cdl_statements.proofs.Prelude.{followed, left, raw, Token, after, first_piece, offset_of, other_pieces, pieces_left, text_of, words, is_mark, lexeme, role_in, pieces_after, with_first, IsAtComma, Passes, Cutter, CutState, Inside, Other}
 use Rattle.cdl_tokens.specs.declared.token.TokenKind.TheVariants as kinds
 use Rattle.cdl_statements.proofs.Cuts.{after_on, words_on}
 

@@ -1,6 +1,5 @@
 -- Lists of constants: the table of due tokens says whether one has its shape, and its values are those of its tokens.
-use Rattle.std.proofs.Common.{◌≡◌, ℕ, Bool, true, false, List, [], ◌∷◌, refl, sym, ap, ◌∙◌, arith, None, Some, if◌then◌else◌, is_none}
-use Rattle.cdl_statements.proofs.Prelude.{Version, value_of, values, is_value_of, next, completes, Lexeme, is_mark_kind, parts, number, numeral, token_fault, first_bad, constant_of, constant, constants, after_member, TokenKind, and_false}
+use Rattle.cdl_statements.proofs.Prelude.{◌≡◌, ℕ, Bool, true, false, List, [], ◌∷◌, refl, sym, ap, ◌∙◌, arith, None, Some, if◌then◌else◌, is_none, Version, value_of, values, is_value_of, next, completes, Lexeme, is_mark_kind, parts, number, numeral, token_fault, first_bad, constant_of, constant, constants, after_member, TokenKind, and_false}
 use Rattle.cdl_statements.specs.declared.due.Due.TheVariants as dues
 use Rattle.cdl_statements.proofs.Dues.{fine, fine_on, kind_of_mark, due_for, both_due, member_due}
 

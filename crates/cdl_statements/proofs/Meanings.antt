@@ -1,22 +1,12 @@
 -- What a text means has a sound header, and arrays that are whole.
-use Rattle.std.proofs.Common.{◌≡◌, ℕ, ◌*◌, ◌≤◌, ◌<◌, true, false, List, [], ◌∷◌, length, map, refl, subst, arith, suc, Bool, ℤ, Result, Ok, rules, if◌then◌else◌}
-use Rattle.std.proofs.lemmas.Bool.{leb-true}
-use Rattle.std.proofs.Math.Nat.{lt-div-mul-add, mul-le-mul_left, mul_comm}
-use Rattle.std.specs.List.{flat_map, list_all}
+use Rattle.cdl_statements.proofs.Prelude.{◌≡◌, ℕ, ◌*◌, ◌≤◌, ◌<◌, true, false, List, [], ◌∷◌, length, map, refl, subst, arith, suc, Bool, ℤ, Result, Ok, rules, if◌then◌else◌, Draft, State, filled, array_limit, is_record_var, slab_count, value_count, AreArrays, IsArray, IsSound, statements, some_count, and_left, and_right, size_of, lt-div-mul-add, mul-le-mul_left, mul_comm, leb-true, flat_map, list_all}
 use Rattle.nc_base.specs.Bytes.{AreBytes}
 use Rattle.nc_base.specs.declared.{dataset.Dataset.Dataset, header.Dim.Dim, nc_type.NcType.NcType, version.Version.Version}
 use Rattle.nc_base.specs.GeneratedFile.{known_records}
-use Rattle.nc_base.specs.Headers.{AreArrays, IsArray, IsSound}
 use Rattle.nc_base.specs.Numbers.{bytes_of_number}
-use Rattle.nc_base.specs.Sizes.{array_limit, is_record_var, slab_count, value_count}
-use Rattle.nc_base.specs.Types.{size_of}
 use Rattle.nc_base.proofs.FilePlaces.{length-numbers}
-use Rattle.nc_base.proofs.SoundLaws.{some_count}
-use Rattle.nc_base.proofs.Tests.{and_left, and_right}
 use Rattle.cdl_statements.specs.Meaning.{are_within_limits, array_of, closing_line, dataset_of, empty, finished, has_small_array, header_of, listed_values, meaning, records_in, records_of, run}
 use Rattle.cdl_statements.specs.SoundHeaders.{is_sound}
-use Rattle.cdl_statements.specs.State.{Draft, State, filled}
-use Rattle.cdl_statements.specs.Pieces.{statements}
 use Rattle.cdl_statements.specs.declared.fault.CdlFault.{CdlFault}
 use Rattle.cdl_statements.proofs.Each.{Each, each_more}
 use Rattle.cdl_statements.proofs.ListedValues.{AreFit, IsFit, filled_len, run_fit}

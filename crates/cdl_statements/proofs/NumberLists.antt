@@ -1,6 +1,5 @@
 -- What two cutters have before them that stand at the same place.
-use Rattle.std.proofs.Common.{◌≡◌, List, ap, rules}
-use Rattle.cdl_statements.proofs.Prelude.{Token, after, other_pieces, pieces_left, words, IsAtComma, SamePlace, Cutter}
+use Rattle.cdl_statements.proofs.Prelude.{◌≡◌, List, ap, rules, Token, after, other_pieces, pieces_left, words, IsAtComma, SamePlace, Cutter}
 
 same_pieces : (c d : Cutter) → SamePlace c d → pieces_left c ≡ pieces_left d
 unfolding pieces_left

@@ -1,12 +1,6 @@
 -- Values of a list, passed one after the other.
-use Rattle.std.proofs.Common.{◌≡◌, ℕ, Bool, true, false, List, [], ◌∷◌, refl, sym, ap, ◌∙◌, Option, rules, None, Some, option_map, arith, is_none}
-use Rattle.cdl_statements.proofs.Prelude.{CdlKind, Version, parts, number, numeral, token_fault, completes, next, is_value_of, words, version_of, is_done, Cutter, Due, Lexeme, IsAtComma, Passes, SamePlace, lexeme_with}
+use Rattle.cdl_statements.proofs.Prelude.{◌≡◌, ℕ, Bool, true, false, List, [], ◌∷◌, refl, sym, ap, ◌∙◌, Option, rules, None, Some, option_map, arith, is_none, CdlKind, Version, parts, number, numeral, token_fault, completes, next, is_value_of, words, version_of, is_done, Cutter, Due, Lexeme, IsAtComma, Passes, SamePlace, lexeme_with, PassesGood, PassesValues, PassesNumber, PassesUnderscore, Separator, held, Numeral}
 use Rattle.std.specs.Option.{is_some}
-use Rattle.cdl_statements.specs.code.ListedTokens.{PassesNumber, PassesUnderscore}
-use Rattle.cdl_statements.specs.code.PassedValues.{PassesGood, PassesValues}
-use Rattle.cdl_statements.specs.declared.due.Due.TheVariants.{Separator}
-use Rattle.cdl_tokens.specs.code.Magnitudes.{held}
-use Rattle.cdl_tokens.specs.declared.numeral.Numeral.{Numeral}
 use Rattle.cdl_tokens.specs.declared.token.TokenKind.TheVariants as kinds
 use Rattle.cdl_statements.proofs.NumberLists.{at_same_comma, same_after, same_words}
 use Rattle.cdl_statements.proofs.ShapeChecks.{good_on}

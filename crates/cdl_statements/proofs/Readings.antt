@@ -1,11 +1,5 @@
 -- A piece that is read, in steps.
-use Rattle.std.proofs.Common.{List, Option, None, Some, Result, Err}
-use Rattle.cdl_statements.specs.State.{State, act}
-use Rattle.cdl_statements.specs.Lexemes.{Lexeme}
-use Rattle.cdl_statements.specs.Shapes.{Statement, shape}
-use Rattle.cdl_statements.specs.declared.fault.CdlKind.{CdlKind}
-use Rattle.cdl_statements.specs.declared.fault.CdlKind.TheVariants.{Syntax}
-use Rattle.nc_base.specs.declared.version.Version.{Version}
+use Rattle.cdl_statements.proofs.Prelude.{List, Option, None, Some, Result, Err, State, act, CdlKind, Lexeme, Statement, shape, Syntax, Version}
 
 -- a fault of syntax comes before those of meaning
 abbrev pub shaped : Version → State → Option Statement → Result State CdlKind

@@ -1,9 +1,7 @@
 -- The rows of a slab.
-use Rattle.std.proofs.Common.{◌≡◌, ℕ, ◌-◌, ◌*◌, suc, Bool, true, false, List, [], ◌∷◌, length, take, map, nat_lt, slice_index, refl, sym, ◌∙◌, ap, arith}
+use Rattle.cdl_statements.proofs.Prelude.{◌≡◌, ℕ, ◌-◌, ◌*◌, suc, Bool, true, false, List, [], ◌∷◌, length, take, map, nat_lt, slice_index, refl, sym, ◌∙◌, ap, arith, false≢true, dim_len, is_record_shape, product, slab_lens}
 use Rattle.nc_base.specs.declared.header.Dim.{Dim}
-use Rattle.nc_base.specs.Sizes.{dim_len, is_record_shape, product, slab_lens}
 use Rattle.nc_base.specs.ValueText.{row_len}
-use Rattle.cdl_statements.proofs.Prelude.{false≢true}
 
 -- the last dimension divides
 last_divides : (f : ℕ → ℕ) (x : ℕ) (xs : List ℕ) → product (map f (x ∷ xs)) ≡ product (map f (take (length xs) (x ∷ xs))) * f (slice_index (x ∷ xs) (length xs))

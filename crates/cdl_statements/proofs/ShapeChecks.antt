@@ -1,8 +1,5 @@
 -- A statement, one token on.
-use Rattle.std.proofs.Common.{◌≡◌, ℕ, true, false, List, [], ◌∷◌, refl, ap, ◌∙◌, Bool, Option, None, if◌then◌else◌, is_none, option_map, arith}
-use Rattle.cdl_tokens.specs.code.Magnitudes.{held}
-use Rattle.cdl_tokens.specs.declared.numeral.Numeral.{Numeral}
-use Rattle.cdl_statements.proofs.Prelude.{Version, Lexeme, parts, number, numeral, first_bad, option_or, token_fault}
+use Rattle.cdl_statements.proofs.Prelude.{◌≡◌, ℕ, true, false, List, [], ◌∷◌, refl, ap, ◌∙◌, Bool, Option, None, if◌then◌else◌, is_none, option_map, arith, Version, Lexeme, parts, number, numeral, first_bad, option_or, token_fault, held, Numeral}
 
 -- a token's words, where the piece goes on and where it ends
 pub going : (ws rest : List Lexeme) (l m : Lexeme) (ends : Bool) → ws ≡ l ∷ (if ends then [] else rest) → l ≡ m → ends ≡ false → ws ≡ m ∷ rest

@@ -1,19 +1,12 @@
 -- The test of a sound header tells whether it is sound.
-use Rattle.std.proofs.Common.{◌≡◌, ℕ, ◌/◌, ◌%◌, ◌<◌, ◌≤◌, Bool, false, ◌==◌, nat_le, List, [], ◌∷◌, length, filter, refl, arith, All, IsTrue}
+use Rattle.cdl_statements.proofs.Prelude.{◌≡◌, ℕ, ◌/◌, ◌%◌, ◌<◌, ◌≤◌, Bool, false, ◌==◌, nat_le, List, [], ◌∷◌, length, filter, refl, arith, All, IsTrue, slab_size, record_size, slab_limit, record_limit, AreDimids, HasWholeValues, IsSound, IsSoundAtt, IsSoundDim, IsSoundNumRecs, IsSoundVar, some_size, sound_shape, whole_part, size_of, mod-eq-sub-div-mul, mul-div_cancel, le-leb, leb-true, list_all}
 use Rattle.std.specs.Bool.{Decides}
-use Rattle.std.specs.List.{list_all}
 use Rattle.std.proofs.lemmas.Bool.Decides.{Decides-and, Decides-by_and, Decides-like, Decides-ltb, nat_tests}
-use Rattle.std.proofs.lemmas.Bool.{le-leb, leb-true}
-use Rattle.std.proofs.Math.Nat.{mod-eq-sub-div-mul, mul-div_cancel}
 use Rattle.nc_base.specs.declared.{header.Att.Att, header.Dim.Dim, header.Header.Header, header.NumRecs.NumRecs, header.Var.Var, version.Version.Version}
-use Rattle.nc_base.specs.Headers.{AreDimids, HasWholeValues, IsSound, IsSoundAtt, IsSoundDim, IsSoundNumRecs, IsSoundVar}
-use Rattle.nc_base.specs.Sizes.{slab_size, record_size, slab_limit, record_limit}
-use Rattle.nc_base.specs.Types.{size_of}
 use Rattle.nc_base.specs.Versions.{count_limit, has_type}
 use Rattle.nc_base.specs.Grammar.{is_dimid}
 use Rattle.nc_base.specs.code.SizeParts.{is_fixed_dim}
 use Rattle.nc_base.specs.code.SoundParts.{AreSoundAtts}
-use Rattle.nc_base.proofs.SoundLaws.{some_size, sound_shape, whole_part}
 use Rattle.cdl_statements.specs.SoundHeaders.{are_dimids, are_sound_atts, has_whole_values, is_sound, is_sound_att, is_sound_dim, is_sound_numrecs, is_sound_var}
 
 tells_le : (a b : ℕ) → Decides (nat_le a b) (a ≤ b)

@@ -1,6 +1,5 @@
 -- The text of a variable's first values, value by value: numbers, and characters row by row.
-use Rattle.std.proofs.Common.{nat_lt, ◌≡◌, ℕ, zero, suc, ◌+◌, ◌-◌, ◌*◌, ◌%◌, ◌<◌, ◌≤◌, Bool, true, false, List, [], ◌∷◌, ◌++◌, length, map, filter, take, drop, slice_index, sym, ◌∙◌, ap, refl, subst, arith, append_assoc, append-nil, length-append, ℤ, unsigned_abs, ◌&&◌, ◌==◌, if◌then◌else◌, replicate, rules}
-use Rattle.nc_base.proofs.Prelude.{flat_map, range_with_len, suffix_len, prefix_len-append, suffix_len_is, suffix_len-le-length, get_or-replicate, length-replicate, eqb-true, take_at, length-take, reverse-append, drop_all, take_all, take-append-drop, length-drop, drop_at, mod-mul-add, filter-append, flat_map-append, escaped_text, escaped_in_string, Look, is_char, begins_row, char_lead, char_text, char_piece, held, is_nul, piece, pieces, number_pieces, characters_text, printed_bytes, row_text, without_trailing_nuls, variable_opening, variable_prefix, Dim, Header, Var, look_of, product, row_len, slab_lens, value_count, is_record_var, dim_len, is_record_shape}
+use Rattle.nc_base.proofs.Prelude.{nat_lt, ◌≡◌, ℕ, zero, suc, ◌+◌, ◌-◌, ◌*◌, ◌%◌, ◌<◌, ◌≤◌, Bool, true, false, List, [], ◌∷◌, ◌++◌, length, map, filter, take, drop, slice_index, sym, ◌∙◌, ap, refl, subst, arith, append_assoc, append-nil, length-append, ℤ, unsigned_abs, ◌&&◌, ◌==◌, if◌then◌else◌, replicate, rules, flat_map, range_with_len, suffix_len, prefix_len-append, suffix_len_is, suffix_len-le-length, get_or-replicate, length-replicate, eqb-true, take_at, length-take, reverse-append, drop_all, take_all, take-append-drop, length-drop, drop_at, mod-mul-add, filter-append, flat_map-append, escaped_text, escaped_in_string, Look, is_char, begins_row, char_lead, char_text, char_piece, held, is_nul, piece, pieces, number_pieces, characters_text, printed_bytes, row_text, without_trailing_nuls, variable_opening, variable_prefix, Dim, Header, Var, look_of, product, row_len, slab_lens, value_count, is_record_var, dim_len, is_record_shape}
 use Rattle.nc_base.proofs.WholeValues.{range-add}
 
 pub escaped-append : (a b : List ℕ) → escaped_text (a ++ b) ≡ escaped_text a ++ escaped_text b

@@ -1,8 +1,8 @@
 -- Where a variable ends: its last value is the one whose index is the greatest in each dimension.
-use Rattle.std.proofs.Common.{◌≡◌, ℕ, zero, suc, ◌+◌, ◌-◌, ◌*◌, ◌<◌, ◌==◌, Bool, true, false, List, [], ◌∷◌, ◌++◌, map, refl, sym, ◌∙◌, ap, arith, Option, Some, None, if◌then◌else◌, slice_get, IfSome}
+use Rattle.nc_base.proofs.Prelude.{◌≡◌, ℕ, zero, suc, ◌+◌, ◌-◌, ◌*◌, ◌<◌, ◌==◌, Bool, true, false, List, [], ◌∷◌, ◌++◌, map, refl, sym, ◌∙◌, ap, arith, Option, Some, None, if◌then◌else◌, slice_get, IfSome, nat_tests, flat_map, range_with_len, last_or, Header, Var, size_of, product, is_record_var, slab_lens, slab_size, record_size, extent_sum, IsSound, IsSoundVar, vectors_below, slab_strides, distance, end_after, extent_end}
 use Rattle.std.specs.Option.{option_map}
-use Rattle.nc_base.proofs.Prelude.{nat_tests, flat_map, range_with_len, last_or, Header, Var, size_of, product, is_record_var, slab_lens, slab_size, record_size, extent_sum, IsSound, IsSoundVar, vectors_below, slab_strides, distance, value_offsets, end_after, extent_end}
 use Rattle.nc_base.proofs.Found.{all-at}
+use Rattle.nc_base.proofs.SlabBytes.{at, fixed-offsets, record-offsets}
 use Rattle.nc_base.proofs.SoundLaws.{some_count}
 
 -- ---- the last of a list
@@ -49,55 +49,37 @@ slab-end : (begin more size : ℕ) (ns : List ℕ) → 0 < product ns
     → begin + (more + distance (greatest ns) (slab_strides size ns)) + size ≡ begin + more + product ns * size
 slab-end begin more size ns some = omega (arith, greatest-distance size ns some)
 
+-- the value at the last of these index vectors ends there
+ended : (begin size : ℕ) (strides : List ℕ) (vectors : List (List ℕ)) (index : List ℕ) → last_or None vectors ≡ Some index
+    → end_after begin size (last_or None (map (at begin strides) vectors)) ≡ begin + distance index strides + size
+ended begin size strides vectors index e = ap (end_after begin size) (last_or-map (at begin strides) None vectors ∙ ap (option_map (at begin strides)) e)
+
+fixed-end : (h : Header) (var : Var) (n : ℕ) → 0 < product (slab_lens h.dims var.dimids) → is_record_var h.dims var ≡ false → extent_end h var n ≡ var.begin_at + slab_size h.dims var
+fixed-end h var n some fixed =
+    let lens = slab_lens h.dims var.dimids in
+    rw (fixed-offsets h var n fixed) (ended var.begin_at (size_of var.ty) _ (vectors_below lens) (greatest lens) (last-vector lens some)
+    ∙ (let e : var.begin_at + distance (greatest lens) (slab_strides (size_of var.ty) lens) + size_of var.ty ≡ var.begin_at + product lens * size_of var.ty = omega (arith, greatest-distance (size_of var.ty) lens some) in e))
+
+record-end : (h : Header) (var : Var) (n : ℕ) → 0 < product (slab_lens h.dims var.dimids) → is_record_var h.dims var ≡ true
+    → extent_end h var n ≡ (if n == 0 then var.begin_at else var.begin_at + (n - 1) * record_size h + slab_size h.dims var)
+record-end h var zero some growing = rw (record-offsets h var zero growing) refl
+record-end h var (suc k) some growing =
+    let lens = slab_lens h.dims var.dimids in
+    let not_zero : (suc k == 0) ≡ false = grind (arith, nat_tests) in
+    let all : 0 < suc k * product lens = omega (arith, some) in
+    rw (record-offsets h var (suc k) growing) (ended var.begin_at (size_of var.ty) _ (vectors_below (suc k ∷ lens)) (greatest (suc k ∷ lens)) (last-vector (suc k ∷ lens) all)
+    ∙ slab-end var.begin_at ((suc k - 1) * record_size h) (size_of var.ty) lens some
+    ∙ sym (ap (λ (t : Bool). if t then var.begin_at else var.begin_at + (suc k - 1) * record_size h + slab_size h.dims var) not_zero))
+
 -- by whether it has records, and by their number
 end-at-kind : (h : Header) (var : Var) (n : ℕ) → 0 < product (slab_lens h.dims var.dimids)
     → extent_end h var n
     ≡ (if is_record_var h.dims var
     then (if n == 0 then var.begin_at else var.begin_at + (n - 1) * record_size h + slab_size h.dims var)
     else var.begin_at + slab_size h.dims var)
-unfolding value_offsets
-end-at-kind h var n some = by_kind (is_record_var h.dims var)
-  where
-    lens : List ℕ
-    lens = slab_lens h.dims var.dimids
-
-    size : ℕ
-    size = size_of var.ty
-
-    rows : Bool → ℕ → List ℕ
-    rows kind k = if kind then k ∷ lens else lens
-
-    steps : Bool → List ℕ
-    steps kind = if kind then record_size h ∷ slab_strides size lens else slab_strides size lens
-
-    offsets : Bool → ℕ → List ℕ
-    offsets kind k = map (λ (index : List ℕ). var.begin_at + distance index (steps kind)) (vectors_below (rows kind k))
-
-    ended : (kind : Bool) (k : ℕ) (index : List ℕ) → last_or None (vectors_below (rows kind k)) ≡ Some index
-        → end_after var.begin_at size (last_or None (offsets kind k)) ≡ var.begin_at + distance index (steps kind) + size
-    ended kind k index e =
-        ap (end_after var.begin_at size)
-        (last_or-map (λ (index : List ℕ). var.begin_at + distance index (steps kind)) None (vectors_below (rows kind k))
-        ∙ ap (option_map (λ (index : List ℕ). var.begin_at + distance index (steps kind))) e)
-
-    recorded : (k : ℕ) → end_after var.begin_at size (last_or None (offsets true k))
-        ≡ (if k == 0 then var.begin_at else var.begin_at + (k - 1) * record_size h + slab_size h.dims var)
-    recorded zero = refl
-    recorded (suc k) =
-        let not_zero : (suc k == 0) ≡ false = grind (arith, nat_tests) in
-        let all : 0 < suc k * product lens = omega (arith, some) in
-        ended true (suc k) (greatest (suc k ∷ lens)) (last-vector (suc k ∷ lens) all)
-        ∙ slab-end var.begin_at ((suc k - 1) * record_size h) size lens some
-        ∙ sym (ap (λ (t : Bool). if t then var.begin_at else var.begin_at + (suc k - 1) * record_size h + slab_size h.dims var) not_zero)
-
-    by_kind : (kind : Bool) → end_after var.begin_at size (last_or None (offsets kind n))
-        ≡ (if kind
-        then (if n == 0 then var.begin_at else var.begin_at + (n - 1) * record_size h + slab_size h.dims var)
-        else var.begin_at + slab_size h.dims var)
-    by_kind true = recorded n
-    by_kind false =
-        ended false n (greatest lens) (last-vector lens some)
-        ∙ (let e : var.begin_at + distance (greatest lens) (slab_strides size lens) + size ≡ var.begin_at + product lens * size = omega (arith, greatest-distance size lens some) in e)
+end-at-kind h var n some = elim (is_record_var h.dims var) as (λ kind. is_record_var h.dims var ≡ kind
+    → extent_end h var n ≡ (if kind then (if n == 0 then var.begin_at else var.begin_at + (n - 1) * record_size h + slab_size h.dims var) else var.begin_at + slab_size h.dims var))
+    [ true ↦ record-end h var n some | false ↦ fixed-end h var n some ] refl
 
 pub extent-found : (h : Header) (v n end : ℕ) → IsSound h → IfSome (slice_get h.vars v) (λ var. end ≡ extent_sum h n var)
     → IfSome (slice_get h.vars v) (λ var. end ≡ extent_end h var n)

@@ -1,10 +1,7 @@
 -- A generated file holds its dataset.
-use Rattle.std.proofs.Common.{◌≡◌, ℕ, suc, ◌+◌, ◌*◌, ◌<◌, List, [], ◌∷◌, ◌++◌, length, map, refl, sym, ◌∙◌, ap, subst, arith, length-append, All, sum, zip}
-use Rattle.nc_base.proofs.Prelude.{flat_map, range_with_len, append-nil, length-map, All-nil, All-cons, All-head, All-tail, Att, Dim, Var, Header, NumRecs, Known, Dataset, Version, count_limit, IsName, padded_size, record_size_of, record_vars, record_size, record_count, IsSoundVar, IsSound, HasValidNames, bare_var, AreArrays, IsGood, HoldsDataset, header_spelling, block, is_sole_narrow, record_part, known_records, data_of, vars_with_begins, with_begins, Fits, file_of}
+use Rattle.nc_base.proofs.Prelude.{◌≡◌, ℕ, suc, ◌+◌, ◌*◌, ◌<◌, List, [], ◌∷◌, ◌++◌, length, map, refl, sym, ◌∙◌, ap, subst, arith, length-append, All, sum, zip, flat_map, range_with_len, append-nil, length-map, All-nil, All-cons, All-head, All-tail, Att, Dim, Var, Header, NumRecs, Known, Dataset, Version, count_limit, IsName, padded_size, record_size_of, record_vars, record_size, record_count, IsSoundVar, IsSound, HasValidNames, bare_var, AreArrays, IsGood, HoldsDataset, header_spelling, block, is_sole_narrow, record_part, known_records, data_of, vars_with_begins, with_begins, Fits, file_of, print, variable_tag, number, offset_part, list_head, var_part, var_after, var_list, header_part, strict, header_by}
 use Rattle.nc_base.proofs.IsAt.{IsAt, stands-here, stands-after, stands-in, stands-at, stands-first, stands-second, stands-row}
 use Rattle.nc_base.proofs.FilePlaces.{slots, fixed_total, record_size_of-slots, length-blocks, length-record, IsPlaced, agree-all, agree-arrays, agree-whole}
-use Rattle.nc_base.specs.Parts.{print}
-use Rattle.nc_base.specs.Grammar.{variable_tag, number, offset_part, list_head, var_part, var_after, var_list, header_part, strict, header_by}
 use Rattle.nc_base.proofs.PrintedLists.{IsPrintedAs, list-printed}
 use Rattle.nc_base.proofs.PartOutcomes.{printed}
 use Rattle.nc_base.proofs.Printable.{header-printable}

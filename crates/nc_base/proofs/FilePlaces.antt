@@ -1,6 +1,5 @@
 -- Each value of a generated file stands where the offsets by index vectors say.
-use Rattle.std.proofs.Common.{◌≡◌, ℕ, zero, suc, ◌+◌, ◌*◌, ◌/◌, ◌<◌, ◌≤◌, Bool, true, false, cond, not, List, [], ◌∷◌, ◌++◌, length, take, drop, replicate, map, refl, sym, ◌∙◌, ap, arith, append_assoc, length-append, length-take, length-drop, None, if◌then◌else◌, All, ℤ, zip}
-use Rattle.nc_base.proofs.Prelude.{concat, flat_map, range_with_len, sum_by, mul-le-mul_right, filter-append, All-nil, sum-map, sum_by-append, Dim, Var, Header, NcType, padding_len, size_of, bytes_of_number, is_record_var, is_narrow, slab_count, slab_size, padded_size, padded_total, record_size_of, record_vars, record_size, IsArray, AreArrays, stored_bytes, first_missing, header_spelling, fill_bytes, padded_slab, block, is_sole_narrow, slab_in, record_part, fixed_vars, begin_after, vars_with_begins}
+use Rattle.nc_base.proofs.Prelude.{◌≡◌, ℕ, zero, suc, ◌+◌, ◌*◌, ◌/◌, ◌<◌, ◌≤◌, Bool, true, false, cond, not, List, [], ◌∷◌, ◌++◌, length, take, drop, replicate, map, refl, sym, ◌∙◌, ap, arith, append_assoc, length-append, length-take, length-drop, None, if◌then◌else◌, All, ℤ, zip, concat, flat_map, range_with_len, sum_by, mul-le-mul_right, filter-append, All-nil, sum-map, sum_by-append, Dim, Var, Header, NcType, padding_len, size_of, bytes_of_number, is_record_var, is_narrow, slab_count, slab_size, padded_size, padded_total, record_size_of, record_vars, record_size, IsArray, AreArrays, stored_bytes, first_missing, header_spelling, fill_bytes, padded_slab, block, is_sole_narrow, slab_in, record_part, fixed_vars, begin_after, vars_with_begins}
 use Rattle.nc_base.proofs.SlabBytes.{fixed-bytes, record-bytes, fixed-whole, record-whole}
 use Rattle.nc_base.proofs.IsAt.{IsAt, stands-at, stands-first, stands-second, stands-read, stands-within, runs-all}
 

@@ -1,6 +1,5 @@
 -- Listed rows and the same with each row filled up: what is added at their end, where each row stands, and how long all are.
-use Rattle.std.proofs.Common.{◌≡◌, ℕ, zero, suc, ◌+◌, ◌-◌, ◌*◌, ◌/◌, ◌%◌, ◌<◌, ◌≤◌, min, max, List, [], ◌∷◌, ◌++◌, length, get_or, take, drop, refl, sym, ◌∙◌, ap, arith, append_assoc, append-nil, length-append, inl, inr, replicate}
-use Rattle.nc_base.proofs.Prelude.{div-lt_iff_lt-mul, mod-lt, cases_lt, take-append-drop, take-append-le, drop-append-le, length-take-le, length-drop, length-replicate, take_all, drop_all, drop-drop, drop-replicate, drop_at, drop_more, filled_rows, AreRowEnds, StandAt, row_start, some_right}
+use Rattle.nc_base.proofs.Prelude.{◌≡◌, ℕ, zero, suc, ◌+◌, ◌-◌, ◌*◌, ◌/◌, ◌%◌, ◌<◌, ◌≤◌, min, max, List, [], ◌∷◌, ◌++◌, length, get_or, take, drop, refl, sym, ◌∙◌, ap, arith, append_assoc, append-nil, length-append, inl, inr, replicate, div-lt_iff_lt-mul, mod-lt, cases_lt, take-append-drop, take-append-le, drop-append-le, length-take-le, length-drop, length-replicate, take_all, drop_all, drop-drop, drop-replicate, drop_at, drop_more, filled_rows, AreRowEnds, StandAt, row_start, some_right}
 
 -- a row with n listed bytes, filled up
 abbrev row : ℕ → ℕ → ℕ → List ℕ → List ℕ
@@ -56,21 +55,7 @@ pub length_filled : (len last fill start : ℕ) (ends bytes : List ℕ) → AreR
 unfolding filled_rows
 length_filled len last fill start [] bytes are held = omega (arith, are, held)
 length_filled len last fill start (end ∷ ends) bytes are held =
-    let n : ℕ = end - start in
-    let past : end ≤ last = start-le-last len last end ends are.2 in
-    let here : n ≤ length bytes = omega (arith, held, past, are.0) in
-    let left : length (drop n bytes) ≡ length bytes - n = length-drop n bytes in
-    omega (
-      arith,
-      held,
-      past,
-      here,
-      left,
-      are.0,
-      length-append (row len fill n bytes) (filled_rows len fill end ends (drop n bytes)),
-      length-row len fill n bytes (omega (arith, are.1)) here,
-      length_filled len last fill end ends (drop n bytes) are.2 (omega (arith, held, past, are.0, left)),
-    )
+    grind (arith, length-append, length-drop, length-row, start-le-last, length_filled len last fill end ends (drop (end - start) bytes) are.2)
 
 rows_long : (len last start : ℕ) (ends : List ℕ) → AreRowEnds len start ends last → last ≤ start + length ends * len
 rows_long len last start [] are = omega (arith, are)

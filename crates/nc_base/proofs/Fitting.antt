@@ -1,6 +1,5 @@
 -- Headers whose begins fit their fields.
-use Rattle.std.proofs.Common.{◌≡◌, ℕ, ◌<◌, Bool, true, List, [], ◌∷◌, refl, sym, subst, Ok, Err, All, nat_lt, if◌then◌else◌, arith}
-use Rattle.nc_base.proofs.Prelude.{list_all, ltb-true, All-nil, All-cons, Var, Header, offset_limit, IsSound, with_begins, Fits, fits, and_left, and_right}
+use Rattle.nc_base.proofs.Prelude.{◌≡◌, ℕ, ◌<◌, Bool, true, List, [], ◌∷◌, refl, sym, subst, Ok, Err, All, nat_lt, if◌then◌else◌, arith, list_all, ltb-true, All-nil, All-cons, Var, Header, offset_limit, IsSound, with_begins, Fits, fits, and_left, and_right}
 use Rattle.nc_base.proofs.FileHolds.{sound-after}
 
 -- the begin is below the limit

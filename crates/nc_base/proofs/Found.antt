@@ -1,6 +1,5 @@
 -- What is found at an index.
-use Rattle.std.proofs.Common.{◌≡◌, ℕ, List, subst, Option, Some, slice_get, IfSome, All, arith}
-use Rattle.std.proofs.lemmas.List.Elements.{All-get_or}
+use Rattle.nc_base.proofs.Prelude.{◌≡◌, ℕ, List, subst, Option, Some, slice_get, IfSome, All, arith, All-get_or}
 use Rattle.std.proofs.lemmas.Option.{get_or_from_slice_get, slice_get_within}
 
 -- one fact of what is found gives another

@@ -1,11 +1,5 @@
 -- Bytes begin with one header or have one first wrong field.
-use Rattle.std.proofs.Common.{◌≡◌, ℕ, ◌+◌, ◌-◌, ◌≤◌, List, length, Ok, Err, sym, ap, subst, ◌∙◌, arith}
-use Rattle.nc_base.proofs.Prelude.{Header, SpellsHeader, StopsAt}
-use Rattle.nc_base.specs.declared.fault.FormatFault.{FormatFault}
-use Rattle.nc_base.specs.Bytes.{Bytes}
-use Rattle.nc_base.specs.Parts.{Step}
-use Rattle.nc_base.specs.Grammar.{header_part}
-use Rattle.nc_base.specs.code.PartRuns.{run, place, StopsWith}
+use Rattle.nc_base.proofs.Prelude.{◌≡◌, ℕ, ◌+◌, ◌-◌, ◌≤◌, List, length, Ok, Err, sym, ap, subst, ◌∙◌, arith, Header, SpellsHeader, StopsAt, Step, header_part, Bytes, run, place, StopsWith, FormatFault}
 use Rattle.nc_base.proofs.PartOutcomes.{Tells, tells}
 use Rattle.nc_base.proofs.PartPlaces.{shorter, in-stops, stops-in, ends-after, begins-within, one-outcome}
 

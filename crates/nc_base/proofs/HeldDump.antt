@@ -1,7 +1,6 @@
 -- The dump of a file that holds a dataset is the text of that dataset.
-use Rattle.std.proofs.Common.{◌≡◌, ℕ, suc, ◌+◌, ◌≤◌, Bool, ◌&&◌, ◌||◌, List, [], ◌∷◌, length, map, refl, sym, ◌∙◌, ap, subst, arith, Option, Some, None, All, not, if◌then◌else◌, slice_index_or, rules}
+use Rattle.nc_base.proofs.Prelude.{◌≡◌, ℕ, suc, ◌+◌, ◌≤◌, Bool, ◌&&◌, ◌||◌, List, [], ◌∷◌, length, map, refl, sym, ◌∙◌, ap, subst, arith, Option, Some, None, All, not, if◌then◌else◌, slice_index_or, rules, record_count, concat, position, bytes_eq, length-map, All-head, All-tail, All-map, All-weaker, fails_before_first, Header, Var, Dataset, numbers, bare_var, bare, fill_value, Look, look_of, SpellsHeader, stored_bytes, stored_values, ends_after, first_missing, HoldsDataset, Options, Ending, DataText, VariableValues, has_variable, has_values, first_unknown, selection_of, values_in_file, values_in_dataset, with_variable, variables_text, shown_data_text, data_word, dump_text, IsDump, IsText, shown_data, stopped, unknown, shown, is_shown, is_unknown}
 use Rattle.std.proofs.Math.Path.{fun_ext}
-use Rattle.nc_base.proofs.Prelude.{record_count, concat, position, bytes_eq, length-map, All-head, All-tail, All-map, All-weaker, fails_before_first, Header, Var, Dataset, numbers, bare_var, bare, fill_value, Look, look_of, SpellsHeader, stored_bytes, stored_values, ends_after, first_missing, HoldsDataset, Options, Ending, DataText, VariableValues, has_variable, has_values, first_unknown, selection_of, values_in_file, values_in_dataset, with_variable, variables_text, shown_data_text, data_word, dump_text, IsDump, IsText, shown_data, stopped, unknown, shown, is_shown, is_unknown}
 use Rattle.nc_base.specs.HeadText.{vars_text, var_lines, head_text}
 use Rattle.nc_base.proofs.HeaderOutcomes.{one-header, header-fine}
 use Rattle.nc_base.proofs.WholeValues.{map-map, numbers-concat, length-whole}

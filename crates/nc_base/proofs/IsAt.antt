@@ -1,6 +1,5 @@
 -- A piece of a list of bytes that stands at an offset.
-use Rattle.std.proofs.Common.{◌≡◌, ℕ, zero, suc, ◌+◌, ◌*◌, ◌<◌, ◌≤◌, List, [], ◌++◌, length, take, drop, refl, sym, ◌∙◌, ap, subst, arith, append_assoc, length-append, append-nil}
-use Rattle.nc_base.proofs.Prelude.{flat_map, range_with_len, take-add, take-append_seam, drop_at, drop-drop, take_all}
+use Rattle.nc_base.proofs.Prelude.{◌≡◌, ℕ, zero, suc, ◌+◌, ◌*◌, ◌<◌, ◌≤◌, List, [], ◌++◌, length, take, drop, refl, sym, ◌∙◌, ap, subst, arith, append_assoc, length-append, append-nil, flat_map, range_with_len, take-add, take-append_seam, drop_at, drop-drop, take_all}
 
 pub record IsAt (piece : List ℕ) (at : ℕ) (bytes : List ℕ) : Type 0 where
   pub prefix : List ℕ

@@ -1,6 +1,5 @@
 -- Where filled arrays are whole, what is listed of them is whole values, and no more than the variables have.
-use Rattle.std.proofs.Common.{◌≡◌, ℕ, zero, suc, ◌+◌, ◌-◌, ◌*◌, ◌/◌, inl, inr, List, ◌∷◌, length, sym, ◌∙◌, ap, arith, length-append}
-use Rattle.nc_base.proofs.Prelude.{cases_lt, Dim, Var, IsArray, AreArrays, value_count, size_of}
+use Rattle.nc_base.proofs.Prelude.{◌≡◌, ℕ, zero, suc, ◌+◌, ◌-◌, ◌*◌, ◌/◌, inl, inr, List, ◌∷◌, length, sym, ◌∙◌, ap, arith, length-append, cases_lt, Dim, Var, IsArray, AreArrays, value_count, size_of}
 use Rattle.nc_base.specs.code.OwedValues.{fills, whole_array, whole_arrays, IsListed, AreListed}
 use Rattle.nc_base.proofs.FilePlaces.{length-number}
 

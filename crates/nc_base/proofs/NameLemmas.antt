@@ -1,6 +1,5 @@
 -- The test for UTF-8 by a conversion that may fail.
-use Rattle.std.proofs.Common.{◌≡◌, ℕ, List, Result, MatchResult, is_ok, arith}
-use Rattle.nc_base.proofs.Prelude.{false_from_ne_true, IsUtf8, is_utf8}
+use Rattle.nc_base.proofs.Prelude.{◌≡◌, ℕ, List, Result, MatchResult, is_ok, arith, false_from_ne_true, IsUtf8, is_utf8}
 use Rattle.std.proofs.lemmas.Str.{IsUtf8-from_is_utf8, is_utf8-from_IsUtf8}
 
 -- a conversion that succeeds exactly at UTF-8 is a test for it

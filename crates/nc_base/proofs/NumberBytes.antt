@@ -1,7 +1,6 @@
 -- Numbers and their big-endian bytes are two ways to write one thing.
-use Rattle.std.proofs.Common.{◌≡◌, ℕ, ◌<◌, ◌^◌, List, [], ◌∷◌, length, ap, arith, ◌∙◌}
+use Rattle.nc_base.proofs.Prelude.{◌≡◌, ℕ, ◌<◌, ◌^◌, List, [], ◌∷◌, length, ap, arith, ◌∙◌, be_bytes_2, be_bytes_4, be_bytes_8, Width, w8, w16, w32, w64, to_be_bytes, from_be_bytes, cast_signed, cast_unsigned, AreBytes}
 use Rattle.std.proofs.lemmas.Int.{of_z-to_z}
-use Rattle.nc_base.proofs.Prelude.{be_bytes_2, be_bytes_4, be_bytes_8, Width, w8, w16, w32, w64, to_be_bytes, from_be_bytes, cast_signed, cast_unsigned, AreBytes}
 use mir.Val.{bits}
 use Rattle.nc_base.specs.NumberLaws.{NumbersReadBack, BytesReadBack, NumbersAreInRange}
 

@@ -1,12 +1,6 @@
 -- How many bytes a written value has.
-use Rattle.std.proofs.Common.{◌≡◌, ℕ, ◌+◌, List, [], ◌∷◌, ◌++◌, length, drop, Option, Some, None, refl, sym, ap, ap₂, ◌∙◌, arith, append_assoc, append-nil, length-append}
-use Rattle.std.proofs.Math.Seq.{drop-append_seam}
-use Rattle.nc_base.proofs.Prelude.{length-replicate, Width, w32, w64, byte_len, Version, count_width, offset_width}
+use Rattle.nc_base.proofs.Prelude.{◌≡◌, ℕ, ◌+◌, List, [], ◌∷◌, ◌++◌, length, drop, Option, Some, None, refl, sym, ap, ap₂, ◌∙◌, arith, append_assoc, append-nil, length-append, length-replicate, Width, w32, w64, byte_len, Version, count_width, offset_width, Step, Part, done, bytes, decoded, under, chain, print, number, count_part, limited_part, offset_part, ignored, first, each, Bytes, printed_len, drop-append_seam}
 use Rattle.nc_base.proofs.Printable.{IsWide, wide-32, wide-64, count-wide, offset-wide}
-use Rattle.nc_base.specs.Grammar.{number, count_part, limited_part, offset_part, ignored, first, each}
-use Rattle.nc_base.specs.Bytes.{Bytes}
-use Rattle.nc_base.specs.Parts.{Step, Part, done, bytes, decoded, under, chain, print}
-use Rattle.nc_base.specs.code.PartRuns.{printed_len}
 
 chain-len : {A B : Type 0} (p : Part A) (next : A → Part B) (y : B) → ((x : A) → printed_len p x ≡ length (print p x)) → ((x : A) → printed_len (next x) y ≡ length (print (next x) y))
     → (o : Option A) → elim o as (λ o. ℕ) [ Some x ↦ printed_len p x + printed_len (next x) y | None ↦ 0 ] ≡ length (elim o as (λ o. Bytes) [ Some x ↦ print p x ++ print (next x) y | None ↦ [] ])
@@ -69,9 +63,7 @@ unfolding each_len
 each_len-push element before [] x =
     let same : printed_len (element before) x ≡ printed_len (element (before ++ [])) x = ap (λ ys. printed_len (element ys) x) (sym (append-nil before)) in omega (arith, same)
 each_len-push element before (y ∷ xs) x =
-    let more = each_len-push element (before ++ y ∷ []) xs x in
-    let same : printed_len (element ((before ++ y ∷ []) ++ xs)) x ≡ printed_len (element (before ++ y ∷ xs)) x = ap (λ ys. printed_len (element ys) x) (append_assoc before (y ∷ []) xs) in
-    omega (arith, more, same)
+    grind (arith, append_assoc, each_len-push element (before ++ y ∷ []) xs x)
 
 chain_len-some : {A B : Type 0} (get : B → Option A) (p : Part A) (next : A → Part B) (x : A) (y : B) → get y ≡ Some x → printed_len (chain get p next) y ≡ printed_len p x + printed_len (next x) y
 unfolding printed_len

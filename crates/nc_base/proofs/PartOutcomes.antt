@@ -1,11 +1,5 @@
 -- Reading a part, what its bytes spell, where reading stops and how a value is written agree, whatever the part.
-use Rattle.std.proofs.Common.{◌≡◌, ℕ, ◌<◌, Bool, true, false, leb, [], ◌++◌, length, take, drop, Option, Result, Ok, Err, refl, sym, ap, ◌∙◌, append_assoc, arith, inl, inr, take-append-drop, length-take-le, le-leb, leb-true, leb-false, if◌then◌else◌, length-append}
-use Rattle.std.proofs.lemmas.Bool.{lt-leb}
-use Rattle.std.proofs.Math.Seq.{take-append_seam, drop-append_seam}
-use Rattle.nc_base.specs.declared.fault.FormatFault.{FormatFault}
-use Rattle.nc_base.specs.Bytes.{Bytes}
-use Rattle.nc_base.specs.Parts.{Step, Part, done, bytes, decoded, under, chain, Spells, print}
-use Rattle.nc_base.specs.code.PartRuns.{StopsWith, Outcome, and_then, with_rest, run, IsPrintable}
+use Rattle.nc_base.proofs.Prelude.{◌≡◌, ℕ, ◌<◌, Bool, true, false, leb, [], ◌++◌, length, take, drop, Option, Result, Ok, Err, refl, sym, ap, ◌∙◌, append_assoc, arith, inl, inr, take-append-drop, length-take-le, le-leb, leb-true, leb-false, if◌then◌else◌, length-append, Step, Part, done, bytes, decoded, under, chain, Spells, print, Bytes, StopsWith, Outcome, and_then, with_rest, run, IsPrintable, take-append_seam, drop-append_seam, FormatFault, lt-leb}
 
 -- ---- what reading gives is true
 
@@ -68,9 +62,7 @@ take_bytes n cut from b = if b then Ok (take n from, drop n from) else Err (cut,
 
 taken : (cut : FormatFault) (content rest : Bytes) → take_bytes (length content) cut (content ++ rest) (leb (length content) (length (content ++ rest))) ≡ Ok (content, rest)
 taken cut content rest =
-    ap (take_bytes (length content) cut (content ++ rest)) (le-leb _ _ (omega (arith, length-append content rest)))
-    ∙ ap (λ (b : Bytes). Ok (b, drop (length content) (content ++ rest))) (take-append_seam content rest)
-    ∙ ap (λ (b : Bytes). Ok (content, b)) (drop-append_seam content rest)
+    grind (arith, drop-append_seam, le-leb, length-append, take-append_seam)
 
 short-bytes : (n : ℕ) (cut : FormatFault) (from : Bytes) → length from < n → take_bytes n cut from (leb n (length from)) ≡ Err (cut, [])
 short-bytes n cut from short = ap (take_bytes n cut from) (lt-leb _ _ short)

@@ -1,9 +1,5 @@
 -- Where the first wrong field lies: how the place of a whole is made of the places of its parts, and that the field doesn't end before it starts.
-use Rattle.std.proofs.Common.{◌⊎◌, sym, ap₂, ◌∙◌, ◌≡◌, ℕ, ◌≤◌, List, [], ◌∷◌, length, Option, Result, Ok, Err, refl, ap, subst, arith, inl, inr, length-append}
-use Rattle.nc_base.specs.declared.fault.FormatFault.{FormatFault}
-use Rattle.nc_base.specs.Bytes.{Bytes}
-use Rattle.nc_base.specs.Parts.{Step, Part, done, bytes, decoded, under, chain, Spells, Stops}
-use Rattle.nc_base.specs.code.PartRuns.{StopsWith, Outcome, run, place}
+use Rattle.nc_base.proofs.Prelude.{◌⊎◌, sym, ap₂, ◌∙◌, ◌≡◌, ℕ, ◌≤◌, List, [], ◌∷◌, length, Option, Result, Ok, Err, refl, ap, subst, arith, inl, inr, length-append, Step, Part, done, bytes, decoded, under, chain, Spells, Stops, Bytes, StopsWith, Outcome, run, place, FormatFault}
 use Rattle.nc_base.proofs.PartOutcomes.{Tells, tells, reads, stops, printed}
 use Rattle.nc_base.specs.HeaderLaws.{IsCoherent}
 

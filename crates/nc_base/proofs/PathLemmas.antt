@@ -1,6 +1,5 @@
 -- What stands before and after the last byte of a kind.
-use Rattle.std.proofs.Common.{◌≡◌, ◌≢◌, ℕ, suc, ◌+◌, ◌-◌, ◌<◌, true, false, List, [], ◌∷◌, length, get_or, take, drop, refl, ap, ◌∙◌, arith, not, get_or-drop, length-drop, ◌==◌}
-use Rattle.nc_base.proofs.Prelude.{nat_tests, list_any_at, suffix_len_is, list_any, before_last, after_last, suffix_len}
+use Rattle.nc_base.proofs.Prelude.{◌≡◌, ◌≢◌, ℕ, suc, ◌+◌, ◌-◌, ◌<◌, true, false, List, [], ◌∷◌, length, get_or, take, drop, refl, ap, ◌∙◌, arith, not, get_or-drop, length-drop, ◌==◌, nat_tests, list_any_at, suffix_len_is, list_any, before_last, after_last, suffix_len}
 use Rattle.nc_base.specs.Paths.{is_dot, has_extension, without_extension}
 
 is_byte : (c b : ℕ) → b ≡ c → (b == c) ≡ true

@@ -1,18 +1,6 @@
 -- A sound header with valid names, whose begins fit, can be written.
-use Rattle.std.proofs.Common.{◌≡◌, ◌≢◌, ℕ, zero, suc, ◌*◌, ◌/◌, ◌^◌, ◌<◌, ◌≤◌, Bool, true, false, List, [], ◌∷◌, ◌++◌, length, drop, Some, Ok, Err, refl, sym, ap, subst, ◌∙◌, append_assoc, append-nil, arith, not, ◌==◌, ◌&&◌, ◌||◌, if◌then◌else◌, rules, eq-eqb, eqb-true, IsTrue, All, filter, codes, cond, length-append, ◌+◌}
-use Rattle.std.proofs.lemmas.Nat.{be_bytes_4, be_bytes_8, from_be_bytes-to_be_bytes_4, from_be_bytes-to_be_bytes_8}
-use Rattle.std.proofs.lemmas.List.{length-replicate}
-use Rattle.std.proofs.Math.Seq.{drop-append_seam}
-use Rattle.std.specs.Int.{Width, w32, w64, byte_len, to_be_bytes, from_be_bytes}
-use Rattle.nc_base.proofs.Prelude.{ltb-true, filter-append, All-head, All-tail, sum-map, sum_by-append, record_size_of, record_limit, version_byte, IsName, IsDimid, AreDimids, IsSoundAtt, IsSoundVar, IsSoundDim, IsSoundNumRecs, IsSound, HasValidNames, count_width, offset_width, count_limit, offset_limit, streaming_mark, has_type, code_of, size_of, padding_len, padded_size, padded_total, record_vars, has_record_dim, not_none, and_both, All-filter, All-weaker, is_record_var, slab_size, slab_limit, mul-div_cancel, lt-ltb, le-leb}
+use Rattle.nc_base.proofs.Prelude.{◌≡◌, ◌≢◌, ℕ, zero, suc, ◌*◌, ◌/◌, ◌^◌, ◌<◌, ◌≤◌, Bool, true, false, List, [], ◌∷◌, ◌++◌, length, Some, Ok, Err, refl, sym, ap, subst, ◌∙◌, append_assoc, append-nil, arith, not, ◌==◌, ◌&&◌, ◌||◌, if◌then◌else◌, rules, eq-eqb, eqb-true, IsTrue, All, filter, codes, cond, length-append, ◌+◌, ltb-true, filter-append, All-head, All-tail, sum-map, sum_by-append, record_size_of, record_limit, version_byte, IsName, IsDimid, AreDimids, IsSoundAtt, IsSoundVar, IsSoundDim, IsSoundNumRecs, IsSound, HasValidNames, count_width, offset_width, count_limit, offset_limit, streaming_mark, has_type, code_of, size_of, padding_len, padded_size, padded_total, record_vars, has_record_dim, not_none, and_both, All-filter, All-weaker, is_record_var, slab_size, slab_limit, mul-div_cancel, lt-ltb, le-leb, Part, dimension_tag, variable_tag, attribute_tag, vsize_of, numrecs_in, version_in, number, count_part, limited_part, offset_part, ignored, name_part, type_in, type_part, each, counted, list_head, list_part, dim_part, dim_after, dim_list, att_part, att_after, att_list, is_dimid, dimid_part, dimid_after, shape_part, record_bytes, is_within_limits, var_part, var_after, var_list, version_part, magic_part, numrecs_part, header_part, strict, header_by, Bytes, IsPrintable, drop-append_seam, be_bytes_4, be_bytes_8, from_be_bytes-to_be_bytes_4, from_be_bytes-to_be_bytes_8, FormatFault, Att, Dim, Var, Header, NumRecs, NcType, Version, BadCount, BadOffset, BadName, BadTag, TwoRecordDims, BadShape, TooLarge, Known, Streaming, length-replicate, Width, w32, w64, byte_len, to_be_bytes, from_be_bytes}
 use Rattle.nc_base.proofs.SoundLaws.{some_size}
-use Rattle.nc_base.specs.declared.{fault.FormatFault.FormatFault, header.Att.Att, header.Dim.Dim, header.Var.Var, header.Header.Header, header.NumRecs.NumRecs, nc_type.NcType.NcType, version.Version.Version}
-use Rattle.nc_base.specs.declared.header.NumRecs.TheVariants.{Known, Streaming}
-use Rattle.nc_base.specs.declared.fault.FormatFault.TheVariants.{BadCount, BadOffset, BadName, BadTag, TwoRecordDims, BadShape, TooLarge}
-use Rattle.nc_base.specs.Bytes.{Bytes}
-use Rattle.nc_base.specs.Parts.{Part}
-use Rattle.nc_base.specs.code.PartRuns.{IsPrintable}
-use Rattle.nc_base.specs.Grammar.{dimension_tag, variable_tag, attribute_tag, vsize_of, numrecs_in, version_in, number, count_part, limited_part, offset_part, ignored, name_part, type_in, type_part, first, each, counted, list_head, list_part, dim_part, dim_after, dim_list, att_part, att_after, att_list, is_dimid, dimid_part, dimid_after, shape_part, record_bytes, is_within_limits, var_part, var_after, var_list, version_part, magic_part, numrecs_part, header_part, strict, header_by}
 
 -- ---- what a sound header's lists keep, at each place
 
@@ -136,12 +124,8 @@ Each {A = A} element all = (before : List A) (x : A) (back : List A) → all ≡
 each-printable : {A : Type 0} (element : List A → Part A) (all before xs : List A) → Each element all → all ≡ before ++ xs → IsPrintable (each element (length xs) before) all
 unfolding each
 each-printable element all before [] good e = e ∙ append-nil before
-each-printable element all before (x ∷ xs) good e = (
-  x,
-  ap (λ ys. first (drop (length before) ys)) e ∙ ap first (drop-append_seam before (x ∷ xs)),
-  good before x xs e,
-  each-printable element all (before ++ x ∷ []) xs good (e ∙ sym (append_assoc before (x ∷ []) xs)),
-)
+each-printable element all before (x ∷ xs) good e =
+    grind (arith, append_assoc, drop-append_seam, each-printable element all (before ++ x ∷ []) xs good)
 
 pub tag-test : (tag : ℕ) → ((tag == 0) || (tag == tag)) ≡ true
 tag-test tag = grind (arith, eq-eqb)

@@ -1,11 +1,5 @@
 -- How the elements of a list are written: one after the other.
-use Rattle.std.proofs.Common.{◌≡◌, ℕ, List, [], ◌∷◌, ◌++◌, length, drop, Option, Some, refl, sym, ap, ap₂, ◌∙◌, append_assoc}
-use Rattle.std.proofs.Math.Seq.{drop-append_seam}
-use Rattle.nc_base.proofs.Prelude.{flat_map}
-use Rattle.nc_base.specs.declared.version.Version.{Version}
-use Rattle.nc_base.specs.Bytes.{Bytes}
-use Rattle.nc_base.specs.Parts.{Step, Part, done, under, chain, print}
-use Rattle.nc_base.specs.Grammar.{first, each, list_head, list_part}
+use Rattle.nc_base.proofs.Prelude.{◌≡◌, ℕ, List, [], ◌∷◌, ◌++◌, length, drop, Option, Some, refl, sym, ap, ap₂, ◌∙◌, append_assoc, flat_map, Step, Part, done, under, chain, print, first, each, list_head, list_part, Bytes, drop-append_seam, Version}
 
 done-printed : {A : Type 0} (x y : A) → print (done x) y ≡ []
 unfolding print

@@ -1,6 +1,5 @@
 -- The sizes of slabs and of records.
-use Rattle.std.proofs.Common.{◌≡◌, ℕ, zero, ◌+◌, ◌*◌, ◌<◌, ◌≤◌, min, Bool, true, false, ◌&&◌, cond, List, [], ◌∷◌, ◌++◌, length, get_or, drop, take, map, refl, sym, ◌∙◌, ap, arith, drop-cons, Some, None, filter, if◌then◌else◌}
-use Rattle.nc_base.proofs.Prelude.{list_all, mul-le-mul_left, le-leb, append-nil, filter_more, filter-append, list_all-append, sum-map, sum_by_push, padding_len, product, is_record_var, is_narrow, slab_size, padded_size, padded_total, record_size_of, slab_limit, least_begin, has_small_slab, checked_record_size, least_record_begin, min_begin, Dim, Var, Header}
+use Rattle.nc_base.proofs.Prelude.{◌≡◌, ℕ, zero, ◌+◌, ◌*◌, ◌<◌, ◌≤◌, min, Bool, true, false, ◌&&◌, cond, List, [], ◌∷◌, ◌++◌, length, get_or, drop, take, map, refl, sym, ◌∙◌, ap, arith, drop-cons, Some, None, filter, if◌then◌else◌, list_all, mul-le-mul_left, le-leb, append-nil, filter_more, filter-append, list_all-append, sum-map, sum_by_push, padding_len, product, is_record_var, is_narrow, slab_size, padded_size, padded_total, record_size_of, slab_limit, least_begin, has_small_slab, checked_record_size, least_record_begin, min_begin, Dim, Var, Header}
 use Rattle.std.proofs.Math.ListN.{drop_of_length-le, take-append-drop}
 
 -- a number that is cut off at c may be cut off before it is multiplied
@@ -58,19 +57,15 @@ record_size_of-append dims [] x = record_size_of_first (is_narrow x) (slab_size 
 record_size_of-append dims (y ∷ []) x = padded_total-append dims (y ∷ []) x
 record_size_of-append dims (y ∷ z ∷ ys) x = padded_total-append dims (y ∷ z ∷ ys) x
 
-seen_skipped : (dims : List Dim) (vars : List Var) (i : ℕ) (d : Var) → i < length vars → is_record_var dims (get_or vars i d) ≡ false
-    → seen dims vars (i + 1) ≡ seen dims vars i
-seen_skipped dims vars i d lt fixed =
-    filter_more (is_record_var dims) vars i d lt ∙ ap (λ b. seen dims vars i ++ cond b (get_or vars i d ∷ []) []) fixed ∙ append-nil _
+pub seen_skipped_at : (dims : List Dim) (vars : List Var) (i : ℕ) (x : Var) → i < length vars → x ≡ get_or vars i x
+    → is_record_var dims x ≡ false → seen dims vars (i + 1) ≡ seen dims vars i
+seen_skipped_at dims vars i x lt at fixed =
+    filter_more (is_record_var dims) vars i x lt ∙ ap (λ b. seen dims vars i ++ cond b (get_or vars i x ∷ []) []) (ap (is_record_var dims) (sym at) ∙ fixed) ∙ append-nil _
 
 pub seen_more : (dims : List Dim) (vars : List Var) (i : ℕ) (d : Var) → i < length vars → is_record_var dims (get_or vars i d) ≡ true
     → seen dims vars (i + 1) ≡ seen dims vars i ++ get_or vars i d ∷ []
 seen_more dims vars i d lt growing =
     filter_more (is_record_var dims) vars i d lt ∙ ap (λ b. seen dims vars i ++ cond b (get_or vars i d ∷ []) []) growing
-
-pub sums_skipped : (dims : List Dim) (vars : List Var) (i size padded : ℕ) (is_first : Bool) (d : Var) → i < length vars
-    → is_record_var dims (get_or vars i d) ≡ false → AreSums dims vars i size padded is_first → AreSums dims vars (i + 1) size padded is_first
-sums_skipped dims vars i size padded is_first d lt fixed sums = grind (arith, seen_skipped, is_none)
 
 -- one more record variable, whose slab keeps the limit
 pub sums_more : (dims : List Dim) (vars : List Var) (i size padded size' padded' : ℕ) (is_first : Bool) (d : Var) → i < length vars
@@ -120,8 +115,7 @@ sums_more_at dims vars i size padded size' padded' slab is_first x lt at growing
 
 pub sums_skipped_at : (dims : List Dim) (vars : List Var) (i size padded : ℕ) (is_first : Bool) (x : Var) → i < length vars
     → x ≡ get_or vars i x → is_record_var dims x ≡ false → AreSums dims vars i size padded is_first → AreSums dims vars (i + 1) size padded is_first
-sums_skipped_at dims vars i size padded is_first x lt at fixed sums =
-    sums_skipped dims vars i size padded is_first x lt (ap (is_record_var dims) (sym at) ∙ fixed) sums
+sums_skipped_at dims vars i size padded is_first x lt at fixed sums = grind (arith, seen_skipped_at dims vars i x lt at fixed, is_none)
 
 pub checked-none_at : (h : Header) (i : ℕ) (x : Var) → i < length h.vars → x ≡ get_or h.vars i x → is_record_var h.dims x ≡ true
     → (slab_size h.dims x ≤ slab_limit → ⊥) → checked_record_size h ≡ None
@@ -135,7 +129,3 @@ least_begin-push var (next ∷ vars) x = omega (arith, least_begin-push next var
 pub least_record_begin_more : (dims : List Dim) (vars : List Var) (i : ℕ) (x : Var) → i < length vars → x ≡ get_or vars i x
     → is_record_var dims x ≡ true → least_record_begin (seen dims vars (i + 1)) ≡ Some (min_begin (least_record_begin (seen dims vars i)) x.begin_at)
 least_record_begin_more dims vars i x lt at growing = grind (arith, seen_more dims vars i x lt, least_begin-push)
-
-pub seen_skipped_at : (dims : List Dim) (vars : List Var) (i : ℕ) (x : Var) → i < length vars → x ≡ get_or vars i x
-    → is_record_var dims x ≡ false → seen dims vars (i + 1) ≡ seen dims vars i
-seen_skipped_at dims vars i x lt at fixed = seen_skipped dims vars i x lt (ap (is_record_var dims) (sym at) ∙ fixed)

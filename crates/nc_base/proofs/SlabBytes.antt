@@ -1,13 +1,12 @@
 -- Where the values of a variable lie, slab by slab: the bytes of all values, one after the other, are the slabs as the
 -- file has them, and no value is missing where each slab lies inside of the file.
-use Rattle.std.proofs.Common.{◌≡◌, ℕ, zero, suc, ◌+◌, ◌*◌, ◌<◌, ◌≤◌, Bool, true, false, List, [], ◌∷◌, ◌++◌, length, take, drop, map, refl, sym, ◌∙◌, ap, subst, arith, append-nil, None, All, if◌then◌else◌}
-use Rattle.nc_base.proofs.Prelude.{concat, flat_map, range_with_len, position, take-add, mul-le-mul_right, le-ltb, drop-drop, map-append, concat-append, position_or_len_is, All-nil, All-cons, All-append, Header, Var, size_of, product, is_record_var, slab_lens, slab_size, record_size, vectors_below, slab_strides, distance, value_offsets, bytes_at, stored_bytes, ends_after, first_missing}
+use Rattle.nc_base.proofs.Prelude.{◌≡◌, ℕ, zero, suc, ◌+◌, ◌*◌, ◌<◌, ◌≤◌, true, false, List, [], ◌∷◌, ◌++◌, length, take, drop, map, refl, sym, ◌∙◌, ap, subst, arith, append-nil, None, All, concat, flat_map, range_with_len, position, take-add, mul-le-mul_right, le-ltb, drop-drop, map-append, concat-append, position_or_len_is, All-nil, All-cons, All-append, Header, Var, size_of, product, is_record_var, slab_lens, slab_size, record_size, vectors_below, slab_strides, distance, value_offsets, bytes_at, stored_bytes, ends_after, first_missing}
 use Rattle.nc_base.proofs.WholeValues.{none-found}
 
 -- ---- index vectors whose first index goes over some rows
 
 -- the offset of a value after a base
-abbrev at : ℕ → List ℕ → List ℕ → ℕ
+abbrev pub at : ℕ → List ℕ → List ℕ → ℕ
 at base strides index = base + distance index strides
 
 -- the bytes of the values at these index vectors
@@ -55,29 +54,30 @@ slab-run size b base (n ∷ lens) =
 
 -- ---- of a variable
 
+-- the offsets of its values, by whether it has records
+pub fixed-offsets : (h : Header) (var : Var) (n : ℕ) → is_record_var h.dims var ≡ false
+    → value_offsets h var n ≡ map (at var.begin_at (slab_strides (size_of var.ty) (slab_lens h.dims var.dimids))) (vectors_below (slab_lens h.dims var.dimids))
+unfolding value_offsets
+fixed-offsets h var n fixed = grind (arith, at)
+
+pub record-offsets : (h : Header) (var : Var) (n : ℕ) → is_record_var h.dims var ≡ true
+    → value_offsets h var n ≡ map (at var.begin_at (record_size h ∷ slab_strides (size_of var.ty) (slab_lens h.dims var.dimids))) (vectors_below (n ∷ slab_lens h.dims var.dimids))
+unfolding value_offsets
+record-offsets h var n growing = grind (arith, at)
+
 -- the bytes of the values of a variable without records are its one slab
 pub fixed-bytes : (h : Header) (b : List ℕ) (var : Var) (n : ℕ) → is_record_var h.dims var ≡ false
     → concat (stored_bytes h b var n) ≡ take (slab_size h.dims var) (drop var.begin_at b)
-unfolding value_offsets
-fixed-bytes h b var n fixed = grind (arith, slab-run (size_of var.ty) b var.begin_at (slab_lens h.dims var.dimids), joined)
+fixed-bytes h b var n fixed = rw (fixed-offsets h var n fixed) (slab-run (size_of var.ty) b var.begin_at (slab_lens h.dims var.dimids))
 
 -- those of a record variable are its slabs, a record size apart
 pub record-bytes : (h : Header) (b : List ℕ) (var : Var) (n : ℕ) → is_record_var h.dims var ≡ true
     → concat (stored_bytes h b var n) ≡ flat_map (λ r. take (slab_size h.dims var) (drop (var.begin_at + r * record_size h) b)) (range_with_len 0 n)
-unfolding value_offsets
-record-bytes h b var n growing = at_kind (is_record_var h.dims var) growing
-  where
-    at_kind : (kind : Bool) → kind ≡ true
-        → joined (size_of var.ty) b var.begin_at (if kind then record_size h ∷ slab_strides (size_of var.ty) (slab_lens h.dims var.dimids) else slab_strides (size_of var.ty) (slab_lens h.dims var.dimids))
-        (vectors_below (if kind then n ∷ slab_lens h.dims var.dimids else slab_lens h.dims var.dimids))
-        ≡ flat_map (λ r. take (slab_size h.dims var) (drop (var.begin_at + r * record_size h) b)) (range_with_len 0 n)
-    at_kind false e = cc
-    at_kind true e =
-        let lens = slab_lens h.dims var.dimids in
-        let size = size_of var.ty in
-        joined-rows size b var.begin_at (record_size h) (slab_strides size lens) (vectors_below lens) 0 n
-        ∙ flat_map-same _ (λ r. take (product lens * size) (drop (var.begin_at + r * record_size h) b)) (range_with_len 0 n)
-        (λ r. slab-run size b (var.begin_at + r * record_size h) lens)
+record-bytes h b var n growing =
+    let lens = slab_lens h.dims var.dimids in
+    let size = size_of var.ty in
+    rw (record-offsets h var n growing) (joined-rows size b var.begin_at (record_size h) (slab_strides size lens) (vectors_below lens) 0 n
+    ∙ flat_map-same _ (λ r. take (product lens * size) (drop (var.begin_at + r * record_size h) b)) (range_with_len 0 n) (λ r. slab-run size b (var.begin_at + r * record_size h) lens))
 
 -- ---- missing values
 
@@ -120,29 +120,13 @@ none-missing size len xs all =
 
 pub fixed-whole : (h : Header) (b : List ℕ) (var : Var) (n : ℕ) → is_record_var h.dims var ≡ false
     → var.begin_at + slab_size h.dims var ≤ length b → first_missing h b var n ≡ None
-unfolding value_offsets
-fixed-whole h b var n fixed within = none-missing (size_of var.ty) (length b) _ (at_kind (is_record_var h.dims var) fixed)
-  where
-    lens : List ℕ
-    lens = slab_lens h.dims var.dimids
-
-    at_kind : (kind : Bool) → kind ≡ false
-        → AllEnd (size_of var.ty) (length b) var.begin_at (if kind then record_size h ∷ slab_strides (size_of var.ty) lens else slab_strides (size_of var.ty) lens)
-        (vectors_below (if kind then n ∷ lens else lens))
-    at_kind true e = cc
-    at_kind false e = slab-ends (size_of var.ty) (length b) var.begin_at lens within
+fixed-whole h b var n fixed within =
+    rw (fixed-offsets h var n fixed) (none-missing (size_of var.ty) (length b) _ (slab-ends (size_of var.ty) (length b) var.begin_at (slab_lens h.dims var.dimids) within))
 
 pub record-whole : (h : Header) (b : List ℕ) (var : Var) (n : ℕ) → is_record_var h.dims var ≡ true
     → ((r : ℕ) → r < n → var.begin_at + r * record_size h + slab_size h.dims var ≤ length b) → first_missing h b var n ≡ None
-unfolding value_offsets
-record-whole h b var n growing within = none-missing (size_of var.ty) (length b) _ (at_kind (is_record_var h.dims var) growing)
-  where
-    lens : List ℕ
-    lens = slab_lens h.dims var.dimids
-
-    at_kind : (kind : Bool) → kind ≡ true
-        → AllEnd (size_of var.ty) (length b) var.begin_at (if kind then record_size h ∷ slab_strides (size_of var.ty) lens else slab_strides (size_of var.ty) lens)
-        (vectors_below (if kind then n ∷ lens else lens))
-    at_kind false e = cc
-    at_kind true e = end-rows (size_of var.ty) (length b) var.begin_at (record_size h) (slab_strides (size_of var.ty) lens) (vectors_below lens) 0 n
-        (λ r lt. slab-ends (size_of var.ty) (length b) (var.begin_at + r * record_size h) lens (within r (omega arith)))
+record-whole h b var n growing within =
+    let lens = slab_lens h.dims var.dimids in
+    rw (record-offsets h var n growing) (none-missing (size_of var.ty) (length b) _
+    (end-rows (size_of var.ty) (length b) var.begin_at (record_size h) (slab_strides (size_of var.ty) lens) (vectors_below lens) 0 n
+    (λ r lt. slab-ends (size_of var.ty) (length b) (var.begin_at + r * record_size h) lens (within r (omega arith)))))

@@ -1,13 +1,6 @@
 -- A header that bytes spell is sound, and its names are valid.
-use Rattle.std.proofs.Common.{◌≡◌, ℕ, zero, suc, ◌+◌, ◌<◌, ◌≤◌, Bool, true, false, List, [], ◌∷◌, ◌++◌, length, Option, Some, None, Result, Ok, Err, refl, sym, ap, subst, ◌∙◌, append_assoc, append-nil, arith, not, ◌==◌, ◌&&◌, ◌||◌, if◌then◌else◌, ok_or, All, IsTrue, filter, cond}
-use Rattle.nc_base.proofs.Prelude.{All-nil, All-cons, ltb-true, IsName, IsSoundAtt, IsSoundVar, IsSoundDim, IsSoundNumRecs, IsSound, HasValidNames, AreDimids, IsDimid, count_limit, has_type, has_record_dim, filter-append, length-append, padded_total, record_vars, record_limit, record_size_of, is_narrow, slab_size, padding_len, slab_limit, leb-true, eqb-true}
-use Rattle.nc_base.specs.declared.{fault.FormatFault.FormatFault, header.Att.Att, header.Dim.Dim, header.Var.Var, header.Header.Header, header.NumRecs.NumRecs, nc_type.NcType.NcType, version.Version.Version}
-use Rattle.nc_base.specs.declared.fault.FormatFault.TheVariants.{BadType, FloatingType, BadCount}
-use Rattle.nc_base.specs.declared.header.NumRecs.TheVariants.{Known, Streaming}
-use Rattle.nc_base.specs.Bytes.{Bytes}
+use Rattle.nc_base.proofs.Prelude.{◌≡◌, ℕ, zero, suc, ◌+◌, ◌<◌, ◌≤◌, Bool, true, false, List, [], ◌∷◌, ◌++◌, length, Option, Some, None, Result, Ok, Err, refl, sym, ap, subst, ◌∙◌, append_assoc, append-nil, arith, not, ◌==◌, ◌&&◌, ◌||◌, if◌then◌else◌, ok_or, All, IsTrue, filter, cond, All-nil, All-cons, ltb-true, IsName, IsSoundAtt, IsSoundVar, IsSoundDim, IsSoundNumRecs, IsSound, HasValidNames, AreDimids, IsDimid, count_limit, has_type, has_record_dim, filter-append, length-append, padded_total, record_vars, record_limit, record_size_of, is_narrow, slab_size, padding_len, slab_limit, leb-true, eqb-true, Part, Spells, dimension_tag, attribute_tag, variable_tag, is_dimid, is_within_limits, count_part, limited_part, name_part, known_type, type_part, each, counted, list_head, list_part, dim_part, dim_after, dim_list, att_part, att_after, att_list, dimid_part, dimid_after, shape_part, var_part, var_after, var_list, numrecs_in, numrecs_part, header_part, strict, header_by, Bytes, FormatFault, Att, Dim, Var, Header, NumRecs, NcType, Version, BadType, FloatingType, BadCount, Known, Streaming}
 use Rattle.nc_base.proofs.Printable.{total-append, one-total}
-use Rattle.nc_base.specs.Parts.{Part, Spells}
-use Rattle.nc_base.specs.Grammar.{dimension_tag, attribute_tag, variable_tag, is_dimid, is_within_limits, count_part, limited_part, name_part, known_type, type_part, each, counted, list_head, list_part, dim_part, dim_after, dim_list, att_part, att_after, att_list, dimid_part, dimid_after, shape_part, var_part, var_after, var_list, numrecs_in, numrecs_part, header_part, strict, header_by}
 
 -- a test that was passed
 passed : {A : Type 0} (b : Bool) (x y : A) (wrong : FormatFault) → ◌≡◌ {A = Result A FormatFault} (if b then Ok x else Err wrong) (Ok y) → (b ≡ true) × (x ≡ y)
@@ -26,9 +19,7 @@ pub record IsSoundName (v : Version) (text : Bytes) : Type 0 where
 name-sound : (v : Version) (from text rest : Bytes) → Spells (name_part strict v) from text rest → IsSoundName v text
 unfolding Spells name_part
 name-sound v from text rest (n, m, c, (t, m2, (x, (len, is), e), (u, m3, any, (same, all)))) =
-    let p = passed _ x t _ e in
-    let x_is : x ≡ text = p.1 ∙ sym same in
-    record { len = subst (λ k. k < count_limit v) (sym len ∙ ap length x_is) (count-below v from n m c); valid = subst IsName x_is p.0 }
+    grind (arith, passed, count-below)
 
 has-type : (v : Version) (o : Option NcType) (ty : NcType) → ok_or (known_type v o) BadType ≡ Ok ty → IsTrue (has_type v ty)
 has-type v None ty e = absurd cc
@@ -63,8 +54,7 @@ each-elements : {A : Type 0} (element : List A → Part A) (n : ℕ) (before : L
 unfolding Spells each
 each-elements element zero before from all rest s = record { xs = []; joined = s.0 ∙ sym (append-nil before); count = refl; each = tt }
 each-elements element (suc n) before from all rest (x, middle, s, t) =
-    let e = each-elements element n (before ++ x ∷ []) middle all rest t in
-    record { xs = x ∷ e.xs; joined = e.joined ∙ append_assoc before (x ∷ []) e.xs; count = ap suc e.count; each = (middle, s, e.each) }
+    grind (arith, append_assoc, each-elements element n (before ++ x ∷ []) middle all rest t)
 
 -- what a list that was spelled has: its elements, and a number of them that the version can count
 pub record Listed {A : Type 0} (v : Version) (element : List A → Part A) (xs : List A) (rest : Bytes) : Type 0 where
@@ -97,10 +87,7 @@ att-sound v from a rest (text, m, s, (ty, m2, t, (n, m3, c, (vals, m4, (len, is)
 dim-sound : (v : Version) (before : List Dim) (from : Bytes) (d : Dim) (rest : Bytes) → Spells (dim_after strict v before) from d rest → IsSoundDim v d × IsName d.name × (not (has_record_dim before && (d.len == 0)) ≡ true)
 unfolding Spells dim_part
 dim-sound v before from d rest (text, m, s, (len, m2, (k, c, e), (whole, end))) =
-    let named = name-sound v from text m s in
-    let p = passed _ k len _ e in
-    subst (λ d. IsSoundDim v d × IsName d.name × (not (has_record_dim before && (d.len == 0)) ≡ true)) (sym whole)
-    (record { name_len = named.len; len = subst (λ k. k < count_limit v) p.1 (count-below v m k m2 c) }, named.valid, subst (λ k. not (has_record_dim before && (k == 0)) ≡ true) p.1 p.0)
+    grind (arith, passed, count-below, name-sound)
 
 -- the record dimensions among these
 abbrev record_dims : List Dim → List Dim
@@ -125,10 +112,7 @@ dims-one : (v : Version) (dims before : List Dim) (from rest : Bytes) → Spells
     → length (record_dims before) ≤ 1 → length (record_dims (before ++ dims)) ≤ 1
 dims-one v [] before from rest s one = subst (λ (ds : List Dim). length (record_dims ds) ≤ 1) (sym (append-nil before)) one
 dims-one v (dim ∷ dims) before from rest s one =
-    let single = (dim-sound v before from dim s.0 s.1).2 in
-    let so_far = one-more (dim.len == 0) before dim (λ e. no-record_dims before (only-one _ _ single e)) one in
-    subst (λ ds. length (record_dims ds) ≤ 1) (append_assoc before (dim ∷ []) dims)
-    (dims-one v dims (before ++ dim ∷ []) s.0 rest s.2 (subst (λ ds. length ds ≤ 1) (sym (filter-append (λ (d : Dim). d.len == 0) before (dim ∷ []))) so_far))
+    grind (arith, append_assoc, filter-append, dim-sound, no-record_dims, one-more, only-one, dims-one v dims (before ++ dim ∷ []) s.0 rest s.2)
 
 -- ---- variables
 
@@ -187,9 +171,7 @@ both-true a b e = grind arith
 
 is-within : (dims : List Dim) (before : List Var) (var : Var) → is_within_limits dims (padded_total dims (record_vars dims before)) var.dimids var.ty ≡ true → IsWithinLimits dims before var
 is-within dims before var e =
-    let both = both-true _ _ e in
-    let below = leb-true _ _ both.1 in
-    record { slab = leb-true _ _ both.0; record_bytes = omega (arith, total-append dims before (var ∷ []), one-total dims var, below) }
+    grind (arith, leb-true, one-total, total-append, both-true)
 
 abbrev HasNames : Var → Type 0
 HasNames var = IsName var.name × All (λ (att : Att). IsName att.name) var.atts

@@ -1,6 +1,5 @@
 -- The text of a variable's values, cut in pieces.
-use Rattle.std.proofs.Common.{◌≡◌, ℕ, zero, suc, ℤ, ◌+◌, ◌*◌, ◌/◌, ◌%◌, ◌<◌, ◌≤◌, Bool, true, false, cond, eqb, List, [], ◌∷◌, ◌++◌, length, drop, sym, ◌∙◌, ap, refl, arith, append_assoc, length-append, append-nil, ⊎_elim, ◌==◌}
-use Rattle.nc_base.proofs.Prelude.{decimal, digit_glyph, digits_onto, digits, mod-add-mod, mod_self, mod-lt, mod-zero, cases_lt, eq-eqb, eqb-true, eqb-false, cond-true, cond-false, reverse-append, length-reverse, drop-append-le, drop_all, prefix_len-append, mod-mul-add, Look, column, number_text, is_nul, held, piece, pieces, variable_opening, variable_prefix, later_pieces, look_of, NcType, Header, Var, numbers_from, size_of}
+use Rattle.nc_base.proofs.Prelude.{◌≡◌, ℕ, zero, suc, ℤ, ◌+◌, ◌*◌, ◌/◌, ◌%◌, ◌<◌, ◌≤◌, Bool, true, false, cond, eqb, List, [], ◌∷◌, ◌++◌, length, drop, sym, ◌∙◌, ap, refl, arith, append_assoc, length-append, append-nil, ⊎_elim, ◌==◌, decimal, digit_glyph, digits_onto, digits, mod-add-mod, mod_self, mod-lt, mod-zero, cases_lt, eq-eqb, eqb-true, eqb-false, cond-true, cond-false, reverse-append, length-reverse, drop-append-le, drop_all, prefix_len-append, mod-mul-add, Look, column, number_text, is_nul, held, piece, pieces, variable_opening, variable_prefix, later_pieces, look_of, NcType, Header, Var, numbers_from, size_of}
 use Rattle.nc_base.proofs.CharacterRows.{IsWide, pieces_are, prefix_is}
 
 -- ---- cutting the values
@@ -10,8 +9,7 @@ pub pieces-append : (look : Look) (before : List ℕ) (values xs ys : List ℤ)
 unfolding pieces
 pieces-append look before values [] ys = simp append-nil
 pieces-append look before values (x ∷ xs) ys =
-    let p = piece look before values x in
-    ap (λ (r : List ℕ). p ++ r) (pieces-append look (before ++ p) (values ++ x ∷ []) xs ys) ∙ simp append_assoc
+    grind (arith, append_assoc, pieces-append look (before ++ (piece look before values x)) (values ++ x ∷ []) xs ys)
 
 pub prefix-append : (look : Look) (xs ys : List ℤ) → IsWide look (length (xs ++ ys)) → variable_prefix look (xs ++ ys) ≡ variable_prefix look xs ++ later_pieces look xs ys
 prefix-append look xs ys wide = grind (arith, prefix_is, length-append, pieces-append, append_assoc)

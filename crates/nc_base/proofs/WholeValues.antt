@@ -1,6 +1,5 @@
 -- Values that stand one after the other, and the first of them that is missing.
-use Rattle.std.proofs.Common.{◌≡◌, ℕ, ◌+◌, ◌*◌, ◌/◌, ◌≤◌, Bool, cond, List, [], ◌∷◌, length, drop, map, refl, ◌∙◌, ap, arith, length-append, length-take, length-drop, None, Some, All, ◌++◌, zero, suc}
-use Rattle.nc_base.proofs.Prelude.{range_with_len, concat, position, position_or_len, mul-div_cancel, le-ltb, take_at, drop_at, All-head, All-tail, NcType, size_of, number_of, numbers_from, numbers, bytes_at}
+use Rattle.nc_base.proofs.Prelude.{◌≡◌, ℕ, ◌+◌, ◌*◌, ◌/◌, ◌≤◌, Bool, cond, List, [], ◌∷◌, length, drop, map, refl, ◌∙◌, ap, arith, length-append, length-take, length-drop, None, Some, All, ◌++◌, zero, suc, range_with_len, concat, position, position_or_len, mul-div_cancel, le-ltb, take_at, drop_at, All-head, All-tail, NcType, size_of, number_of, numbers_from, numbers, bytes_at}
 use Rattle.nc_base.proofs.SoundLaws.{some_size}
 
 pub range-add : (i m n : ℕ) → range_with_len i (m + n) ≡ range_with_len i m ++ range_with_len (i + m) n

@@ -194,6 +194,7 @@ fn sound_slab_size(header: &Header, v: usize) -> u64
 }
 
 /// Returns the least begin of the record variables, or `None` if there are none.
+#[tactic(auto, using(crate::proofs::SizeLaws::least_record_begin_more, crate::proofs::SizeLaws::seen_skipped_at))]
 fn least_record_begin(dims: &[Dim], vars: &[Var]) -> Option<u64>
     ensures { result ≡ least_record_begin (record_vars dims.now vars.now) }
 {

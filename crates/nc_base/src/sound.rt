@@ -78,6 +78,7 @@ fn is_sound_dim(version: Version, dim: &Dim) -> bool
 }
 
 /// Returns true if at most one dimension has length 0, as the record dimension has.
+#[tactic(auto, using(crate::proofs::SoundLaws::one_record_dim))]
 fn has_at_most_one_record_dim(dims: &[Dim]) -> bool
     ensures { IsTrue result ↔ (length (filter (λ dim. dim.len == 0) dims.now) ≤ 1) }
 {

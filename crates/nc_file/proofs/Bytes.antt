@@ -1,13 +1,7 @@
 -- Reading bytes through a window: one after the other, or many at once.
-use Rattle.std.proofs.Common.{◌≡◌, ℕ, ◌+◌, ◌-◌, ◌<◌, ◌≤◌, Bool, true, false, cond, leb, List, [], ◌∷◌, ◌++◌, length, take, drop, set, get_or, Ok, Err, refl, sym, ap, ap₂, ◌∙◌, subst, arith, rules}
-use Rattle.std.proofs.lemmas.Bool.{lt-leb, le-leb}
-use Rattle.std.proofs.lemmas.List.{drop_more}
+use Rattle.nc_file.proofs.Prelude.{◌≡◌, ℕ, ◌+◌, ◌-◌, ◌<◌, ◌≤◌, Bool, true, false, cond, leb, List, [], ◌∷◌, ◌++◌, length, take, drop, set, get_or, Ok, Err, refl, sym, ap, ap₂, ◌∙◌, subst, arith, rules, drop-drop, drop-take, take-take, take_all, length-replicate, length-drop, length-take, OnTrue, OnTrue_at, OnTrue_from, Ghosts, Window, HeadFault, Format, OutOfMemory, ReadFailed, HeaderTruncated, FormatFault, source_of, left, next_of, Kept, Read, Reads, Ready, FailsOnly, Stuck, ignored, Part, bytes, Outcome, and_then, run, left_after, printed_len, lt-leb, le-leb, drop_more}
 use Rattle.std.proofs.lemmas.Grind.{take-set_at}
 use Rattle.std.proofs.Math.Seq.{take-add}
-use Rattle.nc_file.proofs.Prelude.{drop-drop, drop-take, take-take, take_all, length-replicate, length-drop, length-take, OnTrue, OnTrue_at, OnTrue_from, Ghosts, Window, HeadFault, Format, OutOfMemory, ReadFailed, HeaderTruncated, FormatFault, source_of, left, next_of, Kept, Read, Reads, Ready, FailsOnly, Stuck}
-use Rattle.nc_base.specs.Parts.{Part, bytes}
-use Rattle.nc_base.specs.Grammar.{ignored}
-use Rattle.nc_base.specs.code.PartRuns.{Outcome, and_then, run, left_after, printed_len}
 
 -- ---- lists
 

@@ -1,7 +1,6 @@
 -- A generated file is read back and dumped.
-use Rattle.nc_file.proofs.Prelude.{file_of}
+use Rattle.nc_file.proofs.Prelude.{file_of, file-holds}
 use Rattle.nc_base.specs.FileLaws.{FilesHoldOneDataset, FilesAreDumpedAsTheirText, GeneratedFilesAreDumped}
-use Rattle.nc_base.proofs.FileHolds.{file-holds}
 use Rattle.nc_base.proofs.HeldDump.{held-dump, dump-held, one-held}
 
 pub files-hold-one : FilesHoldOneDataset

@@ -1,11 +1,5 @@
 -- How many bytes the parts of a written header have.
-use Rattle.std.proofs.Common.{◌≡◌, ℕ, ◌+◌, ◌*◌, ◌≤◌, min, take, Bool, false, List, [], ◌∷◌, ◌++◌, length, refl, sym, ap, ◌∙◌, arith, rules}
-use Rattle.nc_base.specs.Parts.{Part, bytes}
-use Rattle.nc_base.specs.code.PartRuns.{printed_len}
-use Rattle.nc_base.specs.Grammar.{count_part, ignored, name_part, type_part, list_head, list_part, dim_part, dim_after, dim_list, att_part, att_after, att_list, dimid_part, dimid_after, counted, shape_part, number, offset_part, var_part, var_after, var_list, version_part, magic_part, numrecs_part, header_part, strict, header_by}
-use Rattle.nc_base.proofs.PartLens.{each_len}
-use Rattle.nc_base.proofs.PartLens.{each-len, count-len, count_field-len, ignored-len, field_lens, print-len}
-use Rattle.nc_file.proofs.Prelude.{HeaderTruncated, take_all, Att, Dim, Header, NumRecs, Var, Version, NcType, byte_len, count_width, offset_width, padded_size, padding_len, vsize_of, sum_by, sum_by-cons, header_spelling}
+use Rattle.nc_file.proofs.Prelude.{◌≡◌, ℕ, ◌+◌, ◌*◌, ◌≤◌, min, take, Bool, false, List, [], ◌∷◌, ◌++◌, length, refl, sym, ap, ◌∙◌, arith, rules, HeaderTruncated, take_all, Att, Dim, Header, NumRecs, Var, Version, NcType, byte_len, count_width, offset_width, padded_size, padding_len, vsize_of, sum_by, sum_by-cons, header_spelling, count_part, ignored, name_part, type_part, list_head, list_part, dim_part, dim_after, dim_list, att_part, att_after, att_list, dimid_part, dimid_after, counted, shape_part, number, offset_part, var_part, var_after, var_list, version_part, magic_part, numrecs_part, header_part, strict, header_by, Part, bytes, printed_len, each_len, each-len, count-len, count_field-len, ignored-len, field_lens, print-len}
 
 -- a count, as wide as the version's
 abbrev pub count_bytes : Version → ℕ

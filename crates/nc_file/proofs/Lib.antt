@@ -3,9 +3,7 @@ pub mod Totals
 pub mod PartRuns
 pub mod Prints
 pub mod Outcomes
-pub mod Answered
 pub mod FileLaws
-pub mod Shapes
 pub mod HeaderLen
 pub mod Weights
 pub mod BeginLaws

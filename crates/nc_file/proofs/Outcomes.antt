@@ -1,10 +1,6 @@
 -- Bytes begin with one header or have one first wrong field.
-use Rattle.std.proofs.Common.{ℕ, ◌-◌, ◌⊎◌, List, length, inl, inr, arith}
-use Rattle.nc_file.proofs.Prelude.{FormatFault, Header, SpellsHeader}
-use Rattle.nc_base.specs.Grammar.{header_part}
-use Rattle.nc_base.specs.code.PartRuns.{StopsWith}
+use Rattle.nc_file.proofs.Prelude.{ℕ, ◌-◌, ◌⊎◌, List, length, inl, inr, arith, FormatFault, Header, SpellsHeader, header_part, StopsWith, end-within, stops-at, one-header, one-fault, header-fine}
 use Rattle.nc_base.proofs.PartPlaces as parts
-use Rattle.nc_base.proofs.HeaderOutcomes.{end-within, stops-at, one-header, one-fault, header-fine}
 use Rattle.nc_file.specs.OneOutcome.{BeginsWithHeader, HasFirstFault, HasOneOutcome}
 
 either-of : (bytes : List ℕ) → ((h : Header) × (rest : List ℕ) × SpellsHeader bytes h rest) ⊎ ((fault : FormatFault) × (rest : List ℕ) × StopsWith header_part bytes fault rest)

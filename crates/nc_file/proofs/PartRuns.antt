@@ -1,12 +1,6 @@
 -- What the parts of a header read.
-use Rattle.std.proofs.Common.{◌≡◌, ℕ, suc, ◌+◌, ◌-◌, ◌<◌, ◌≤◌, Bool, true, false, leb, List, [], ◌∷◌, ◌++◌, length, take, drop, Option, Some, None, Result, Ok, Err, cond, if◌then◌else◌, ◌==◌, ◌||◌, refl, sym, ap, subst, ◌∙◌, arith, le_refl, le_trans, length-append, length-drop}
-use Rattle.nc_file.proofs.Prelude.{FormatFault, HeadFault, Format, OutOfMemory, ReadFailed, HeaderTruncated, TooLarge, Dim, NcType, has_record_dim, total_with, Ghosts, Window, OnTrue, OnTrue_from, sub-zero, Kept, Read, Reads, left, next_of, source_of}
+use Rattle.nc_file.proofs.Prelude.{◌≡◌, ℕ, suc, ◌+◌, ◌-◌, ◌<◌, ◌≤◌, Bool, true, false, leb, List, [], ◌∷◌, ◌++◌, length, take, drop, Option, Some, None, Result, Ok, Err, cond, if◌then◌else◌, ◌==◌, ◌||◌, refl, sym, ap, subst, ◌∙◌, arith, le_refl, le_trans, length-append, length-drop, FormatFault, HeadFault, Format, OutOfMemory, ReadFailed, HeaderTruncated, TooLarge, Dim, NcType, has_record_dim, total_with, Ghosts, Window, OnTrue, OnTrue_from, sub-zero, Kept, Read, Reads, left, next_of, source_of, checked, each, is_within_limits, Step, Part, done, bytes, decoded, under, chain, Outcome, and_then, with_rest, run, left_after, each_len, each_len-none, each_len-push, each-len, field_lens, Bytes}
 use Rattle.std.proofs.lemmas.List.Folds.{list_any-append}
-use Rattle.nc_base.specs.Bytes.{Bytes}
-use Rattle.nc_base.specs.Parts.{Step, Part, done, bytes, decoded, under, chain}
-use Rattle.nc_base.specs.code.PartRuns.{Outcome, and_then, with_rest, run, left_after}
-use Rattle.nc_base.specs.Grammar.{checked, each, is_within_limits}
-use Rattle.nc_base.proofs.PartLens.{each_len, each_len-none, each_len-push, each-len, field_lens}
 use Rattle.nc_file.proofs.Bytes.{kept-then, cause-then}
 use Rattle.nc_file.proofs.Totals.{total_of-append}
 

@@ -1,10 +1,7 @@
 -- How the lists of a header and their elements are written.
-use Rattle.std.proofs.Common.{◌≡◌, ℕ, Bool, false, List, ◌++◌, length, refl, ap}
+use Rattle.nc_file.proofs.Prelude.{◌≡◌, ℕ, Bool, false, List, ◌++◌, length, refl, ap, Att, Dim, Var, Version, flat_map, count_width, number, count_part, list_head, dim_part, dim_after, dim_list, att_part, att_after, att_list, dimid_part, dimid_after, shape_part, counted, var_part, var_after, var_list, dimension_tag, attribute_tag, variable_tag, strict, print}
 use Rattle.nc_base.proofs.PrintedLists.{each-printed, list-printed}
-use Rattle.nc_base.specs.Parts.{print}
-use Rattle.nc_base.specs.Grammar.{number, count_part, list_head, dim_part, dim_after, dim_list, att_part, att_after, att_list, dimid_part, dimid_after, shape_part, counted, var_part, var_after, var_list, dimension_tag, attribute_tag, variable_tag, strict}
 use Rattle.devices.proofs.Writes.{writes}
-use Rattle.nc_file.proofs.Prelude.{Att, Dim, Var, Version, flat_map, count_width}
 
 -- what stands before it leaves no trace in how a dimension is written
 any-dim : (v : Version) (b : Bool) (dim : Dim) → print (dim_part strict v b) dim ≡ print (dim_part strict v false) dim

@@ -1,6 +1,5 @@
 -- The padded slabs of the record variables before a variable, and with it.
-use Rattle.std.proofs.Common.{◌≡◌, ℕ, ◌+◌, true, false, cond, List, [], ◌∷◌, ◌++◌, refl, ap, ◌∙◌, arith}
-use Rattle.nc_file.proofs.Prelude.{Dim, Var, is_record_var, padded_size, padded_total, record_vars, total-append, record_bytes}
+use Rattle.nc_file.proofs.Prelude.{◌≡◌, ℕ, ◌+◌, true, false, cond, List, [], ◌∷◌, ◌++◌, refl, ap, ◌∙◌, arith, Dim, Var, is_record_var, padded_size, padded_total, record_vars, total-append, record_bytes}
 
 -- the padded slabs of the record variables among these
 abbrev pub total_of : List Dim → List Var → ℕ

@@ -1,9 +1,6 @@
 -- A header weighs no more than its spelling has bytes.
-use Rattle.std.proofs.Common.{ℕ, ◌*◌, ◌≤◌, [], length, false, arith}
-use Rattle.nc_file.proofs.Prelude.{sum_by-le-sum_by, Att, Dim, Header, Var, Version, header_spelling}
+use Rattle.nc_file.proofs.Prelude.{ℕ, ◌*◌, ◌≤◌, [], length, false, arith, sum_by-le-sum_by, Att, Dim, Header, Var, Version, header_spelling, att_part, dim_part, var_part, strict, printed_len}
 use Rattle.nc_base.specs.code.Weight.{dim_weight, att_weight, var_weight, weight_of}
-use Rattle.nc_base.specs.code.PartRuns.{printed_len}
-use Rattle.nc_base.specs.Grammar.{att_part, dim_part, var_part, strict}
 use Rattle.nc_file.proofs.HeaderLen.{count_bytes, name-len, dim-len, att-len, var-len, dims-len, atts-len, vars-len, header-len}
 
 some-count : (v : Version) → 1 ≤ count_bytes v

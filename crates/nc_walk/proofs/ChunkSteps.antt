@@ -1,7 +1,5 @@
 -- Values of one slab, and then more of the next ones.
-use Rattle.std.proofs.Common.{◌≡◌, ℕ, ◌+◌, ◌-◌, ◌*◌, ◌^◌, ◌<◌, ◌≤◌, min, Bool, List, ◌++◌, length, take, sym, ◌∙◌, ap, subst, arith, length-append, length-take, All}
-use Rattle.nc_walk.proofs.Prelude.{map-append, All-append, concat-append, mod-mul-add, mul-le-mul_right, lt_of_mul-lt-mul_right, take-add, HasFailed, SourceView, having_read, Slabs, Cursor, total, number_at, offset, offsets_after, IsSized, IsOffset, Ready, Use, between, WalkView, IsWhole, Exactly, ReturnsValues, Failing, Truncated, ReadValues, Reading, reading, standing}
-use borrow.Rule.Slice.PartMut.{put_mid}
+use Rattle.nc_walk.proofs.Prelude.{◌≡◌, ℕ, ◌+◌, ◌-◌, ◌*◌, ◌^◌, ◌<◌, ◌≤◌, min, Bool, List, ◌++◌, length, take, sym, ◌∙◌, ap, subst, arith, length-append, length-take, All, map-append, All-append, concat-append, mod-mul-add, mul-le-mul_right, lt_of_mul-lt-mul_right, take-add, HasFailed, SourceView, having_read, Slabs, Cursor, total, number_at, offset, offsets_after, IsSized, IsOffset, Ready, Use, between, WalkView, IsWhole, Exactly, ReturnsValues, Failing, Truncated, ReadValues, Reading, reading, standing, put_mid}
 use Rattle.nc_walk.specs.declared.chunk.Chunk.{Chunk}
 use Rattle.nc_walk.specs.code.Chunks.{Collected}
 use Rattle.nc_walk.proofs.FullReadSteps.{transparent_both, after_after, prefix_then, prefix_still}

@@ -1,6 +1,5 @@
 -- What is written of all arrays is the data part of the file.
-use Rattle.std.proofs.Common.{◌≡◌, ℕ, zero, suc, ◌+◌, ◌*◌, ◌<◌, ◌≤◌, Bool, true, false, List, [], ◌∷◌, ◌++◌, length, drop, refl, sym, ◌∙◌, ap, arith, length-take, length-drop, append-nil, if◌then◌else◌, zip}
-use Rattle.nc_walk.proofs.Prelude.{flat_map, range_with_len, mul-le-mul_right, nil_from_length, Dim, Var, Header, block, data_of, fill_bytes, known_records, is_sole_narrow, padded_slab, record_part, slab_in, whole_array, whole_arrays, IsListed, AreListed, is_record_var, is_narrow, record_vars, slab_size, flat_map-below, ArrayView, array_view, filled_blocks, filled_records, filled_slabs, record_arrays}
+use Rattle.nc_walk.proofs.Prelude.{◌≡◌, ℕ, zero, suc, ◌+◌, ◌*◌, ◌<◌, ◌≤◌, Bool, true, false, List, [], ◌∷◌, ◌++◌, length, drop, refl, sym, ◌∙◌, ap, arith, length-take, length-drop, append-nil, if◌then◌else◌, zip, flat_map, range_with_len, mul-le-mul_right, nil_from_length, Dim, Var, Header, block, data_of, fill_bytes, known_records, is_sole_narrow, padded_slab, record_part, slab_in, whole_array, whole_arrays, IsListed, AreListed, is_record_var, is_narrow, record_vars, slab_size, flat_map-below, ArrayView, array_view, filled_blocks, filled_records, filled_slabs, record_arrays}
 use Rattle.nc_base.proofs.IsAt.{runs-all}
 use Rattle.std.proofs.lemmas.Grind.{flat_map-append}
 use Rattle.nc_walk.specs.code.DataPart.{whole_data, whole_records}

@@ -1,6 +1,5 @@
 -- The data part of a file, as it is written.
-use Rattle.std.proofs.Common.{◌≡◌, ℕ, suc, ◌+◌, ◌-◌, ◌<◌, ◌≤◌, List, [], ◌++◌, length, get_or, map, drop, ap, arith, if◌then◌else◌}
-use Rattle.nc_walk.proofs.Prelude.{flat_map, range_with_len, drop_more, drop_all, Dim, Var, is_record_var, RecordSlab, ArrayView, array_view, filled_slab, filled_blocks, filled_record, filled_records, array_of}
+use Rattle.nc_walk.proofs.Prelude.{◌≡◌, ℕ, suc, ◌+◌, ◌-◌, ◌<◌, ◌≤◌, List, [], ◌++◌, length, get_or, map, drop, ap, arith, if◌then◌else◌, flat_map, range_with_len, drop_more, drop_all, Dim, Var, is_record_var, RecordSlab, ArrayView, array_view, filled_slab, filled_blocks, filled_record, filled_records, array_of}
 
 -- ---- what is left of a list of variables and one of their arrays
 

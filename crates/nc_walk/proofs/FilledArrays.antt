@@ -1,6 +1,5 @@
 -- A slab of an array whose last values are owed: what of it is listed, and fill values.
-use Rattle.std.proofs.Common.{◌≡◌, ℕ, zero, suc, ◌+◌, ◌-◌, ◌*◌, ◌/◌, ◌<◌, ◌≤◌, Bool, true, false, List, ◌++◌, length, take, drop, replicate, refl, sym, ◌∙◌, ap, arith, append_assoc, length-append, length-take, length-drop, if◌then◌else◌}
-use Rattle.nc_walk.proofs.Prelude.{concat, mul-div_cancel, mul-le-mul_right, mul-le-mul_left, drop_at, Dim, Var, NcType, padding_len, fill_value, fill_bytes, padded_slab, slab_in, value_count, bytes_of_number, fills, owed_count, whole_array, IsListed, is_record_var, slab_count, slab_size, size_of, length-number, whole-padding, some_size, array_view, repeated, filled_slab, filled_record, filled_slabs, length-replicated, mul-sub, take_at}
+use Rattle.nc_walk.proofs.Prelude.{◌≡◌, ℕ, zero, suc, ◌+◌, ◌-◌, ◌*◌, ◌/◌, ◌<◌, ◌≤◌, Bool, true, false, List, ◌++◌, length, take, drop, replicate, refl, sym, ◌∙◌, ap, arith, append_assoc, length-append, length-take, length-drop, if◌then◌else◌, concat, mul-div_cancel, mul-le-mul_right, mul-le-mul_left, drop_at, Dim, Var, NcType, padding_len, fill_value, fill_bytes, padded_slab, slab_in, value_count, bytes_of_number, fills, owed_count, whole_array, IsListed, is_record_var, slab_count, slab_size, size_of, length-number, whole-padding, some_size, array_view, repeated, filled_slab, filled_record, filled_slabs, length-replicated, mul-sub, take_at}
 use Rattle.nc_base.proofs.ListedArrays.{length-fills}
 use Rattle.nc_walk.proofs.Repeats.{copies-add, drop-both, repeated-by, take-both}
 

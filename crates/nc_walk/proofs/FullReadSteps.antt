@@ -1,7 +1,5 @@
 -- Bytes that one read after another has brought.
-use Rattle.std.proofs.Common.{◌≡◌, ℕ, ◌+◌, ◌-◌, ◌<◌, ◌≤◌, Bool, List, ◌++◌, length, take, drop, refl, ◌∙◌, ap, subst, arith, length-append, length-take, length-drop}
-use Rattle.nc_walk.proofs.Prelude.{OnTrue, drop-drop, take-append-le, take-add, take-append-add, take-append_seam, SourceView, having_read, BytesRead, NoneRead, ReadInFull, FailedReadInFull}
-use borrow.Rule.Slice.PartMut.{put_mid, same_len_mid}
+use Rattle.nc_walk.proofs.Prelude.{◌≡◌, ℕ, ◌+◌, ◌-◌, ◌<◌, ◌≤◌, Bool, List, ◌++◌, length, take, drop, refl, ◌∙◌, ap, subst, arith, length-append, length-take, length-drop, OnTrue, drop-drop, take-append-le, take-add, take-append-add, take-append_seam, SourceView, having_read, BytesRead, NoneRead, ReadInFull, FailedReadInFull, put_mid, same_len_mid}
 
 -- n bytes from this cursor on stand at the start of the slice
 pub record Filling (is_transparent : Bool) (old new : SourceView) (at got : ℕ) (xs : List ℕ) : Type 0 where

@@ -1,5 +1,4 @@
 pub mod FullReadSteps
-pub mod Cursors
 pub mod Runs
 pub mod Orders
 pub mod SlabSteps
@@ -12,6 +11,5 @@ pub mod Repeats
 pub mod DataParts
 pub mod FilledArrays
 pub mod DataFilled
-pub mod SlabArrays
 pub mod ListedRuns
 pub mod Prelude

@@ -1,6 +1,5 @@
 -- The runs of a listed array, one after the other.
-use Rattle.std.proofs.Common.{◌≡◌, ℕ, zero, suc, ◌+◌, ◌-◌, ◌*◌, List, ◌++◌, length, take, drop, replicate, refl, sym, ◌∙◌, ap, arith, length-append, append_assoc, min}
-use Rattle.nc_walk.proofs.Prelude.{concat, take-append-add, cases_lt, take-append-le, take_all, take-replicate, drop_at, drop-drop, append-nil, length-drop, length-replicate, replicate-append-replicate, repeated}
+use Rattle.nc_walk.proofs.Prelude.{◌≡◌, ℕ, zero, suc, ◌+◌, ◌-◌, ◌*◌, List, ◌++◌, length, take, drop, replicate, refl, sym, ◌∙◌, ap, arith, length-append, append_assoc, min, concat, take-append-add, cases_lt, take-append-le, take_all, take-replicate, drop_at, drop-drop, append-nil, length-drop, length-replicate, replicate-append-replicate, repeated}
 use Rattle.nc_walk.proofs.Repeats.{take-both}
 use Rattle.nc_base.specs.code.ListedRows.{StandAt}
 

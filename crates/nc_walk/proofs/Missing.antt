@@ -1,6 +1,5 @@
 -- The first missing value, and the values before it.
-use Rattle.std.proofs.Common.{◌≡◌, ℕ, ◌+◌, ◌<◌, ◌≤◌, true, false, List, length, get_or, take, subst, arith, None, Some, inl, inr, length-take, All}
-use Rattle.nc_walk.proofs.Prelude.{position_or_len, cases_lt, lt-ltb, le-ltb, ltb-false, get_or-take, All-from_get_or, Header, Var, size_of, value_count, ends_after, value_offsets, first_missing, IsWhole, whole_count, none-found}
+use Rattle.nc_walk.proofs.Prelude.{◌≡◌, ℕ, ◌+◌, ◌<◌, ◌≤◌, true, false, List, length, get_or, take, subst, arith, None, Some, inl, inr, length-take, All, position_or_len, cases_lt, lt-ltb, le-ltb, ltb-false, get_or-take, All-from_get_or, Header, Var, size_of, value_count, ends_after, value_offsets, first_missing, IsWhole, whole_count, none-found}
 use Rattle.std.proofs.lemmas.List.Sums.{position_or_len_is, prefix_len-le-length, fails_before_first, passes_at_first}
 use Rattle.nc_walk.proofs.Orders.{count_of_offsets}
 

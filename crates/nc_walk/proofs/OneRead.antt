@@ -1,10 +1,6 @@
 -- One read of a walk, and what the walk is afterwards.
-use Rattle.std.proofs.Common.{◌≡◌, ℕ, ◌+◌, ◌-◌, ◌*◌, ◌/◌, ◌<◌, ◌≤◌, Bool, List, ◌++◌, length, take, drop, map, sym, ◌∙◌, ap, subst, arith, length-append, length-take, Option, None, Some, Result, Ok, Err, IfOk, IfErr, All}
-use Rattle.std.proofs.Math.Nat.{mod-lt}
-use Rattle.nc_walk.proofs.Prelude.{concat, take-append-le, div-add-mod', mod-mul-add, mul-div_cancel, mul-le-mul_right, le_of_mul-le-mul_right, div-mul-le_self, bytes_at, SourceView, having_read, Slabs, Cursor, ReadInFull, FailedReadInFull, total, number_at, offset, offsets_from, offsets_after, Ready, IsSized, IsCursor, IsWhole, Exactly, ReturnsValues, Failing, Truncated, ReadValues, Steps, Advanced, reading, between, standing, stopped, as_answer, count}
+use Rattle.nc_walk.proofs.Prelude.{◌≡◌, ℕ, ◌+◌, ◌-◌, ◌*◌, ◌/◌, ◌<◌, ◌≤◌, Bool, List, ◌++◌, length, take, drop, map, sym, ◌∙◌, ap, subst, arith, length-append, length-take, Option, None, Some, Result, Ok, Err, IfOk, IfErr, All, concat, take-append-le, div-add-mod', mod-mul-add, mul-div_cancel, mul-le-mul_right, le_of_mul-le-mul_right, div-mul-le_self, bytes_at, SourceView, having_read, Slabs, Cursor, ReadInFull, FailedReadInFull, total, number_at, offset, offsets_from, offsets_after, Ready, IsSized, IsCursor, IsWhole, Exactly, ReturnsValues, Failing, Truncated, ReadValues, Steps, Advanced, reading, between, standing, stopped, as_answer, count, ReadFailed, DataTruncated, Reads, mod-lt}
 use Rattle.nc_walk.specs.declared.fault.WalkFault.{WalkFault}
-use Rattle.nc_walk.specs.declared.fault.WalkFault.TheVariants.{ReadFailed, DataTruncated}
-use Rattle.nc_walk.specs.code.Walks.{Reads}
 use Rattle.nc_walk.proofs.FullReadSteps.{transparent_any, transparent_map, transparent_both}
 use Rattle.nc_walk.proofs.Runs.{length-offsets, take-offsets, drop-offsets, first_offset, run_bytes, run_within, ready_whole}
 

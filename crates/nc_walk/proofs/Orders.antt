@@ -1,6 +1,5 @@
 -- The offsets of a variable's values by their index vectors are those by their numbers, in the same order.
-use Rattle.std.proofs.Common.{◌≡◌, ℕ, zero, suc, ◌+◌, ◌*◌, ◌/◌, ◌%◌, ◌<◌, Bool, List, [], ◌∷◌, ◌++◌, length, map, sym, ◌∙◌, ap, refl, arith, if◌then◌else◌}
-use Rattle.nc_walk.proofs.Prelude.{range-add, flat_map, range_with_len, map-append, length-map-range_with_len, div-mul-add, mod-mul-add, mod_below, div-add-mod', Var, Header, size_of, product, is_record_var, slab_lens, record_size, value_count, vectors_below, slab_strides, distance, value_offset, value_offsets, lens_over, Slabs, total, offset, offsets_from, slabs_of, AreSlabsOf, Starts, standing, map-map, some_right}
+use Rattle.nc_walk.proofs.Prelude.{◌≡◌, ℕ, zero, suc, ◌+◌, ◌*◌, ◌/◌, ◌%◌, ◌<◌, Bool, List, [], ◌∷◌, ◌++◌, length, map, sym, ◌∙◌, ap, refl, arith, if◌then◌else◌, range-add, flat_map, range_with_len, map-append, length-map-range_with_len, div-mul-add, mod-mul-add, mod_below, div-add-mod', Var, Header, size_of, product, is_record_var, slab_lens, record_size, value_count, vectors_below, slab_strides, distance, value_offset, value_offsets, lens_over, Slabs, total, offset, offsets_from, slabs_of, AreSlabsOf, Starts, standing, map-map, some_right}
 use Rattle.nc_walk.proofs.Runs.{offset_at}
 
 -- the i-th index vector in row-major order

@@ -1,4 +1,5 @@
 -- The names that proofs of this crate cite from elsewhere, passed on from one place.
+pub use Rattle.std.proofs.Common.{◌≡◌, ℕ, zero, suc, ◌+◌, ◌-◌, ◌*◌, ◌/◌, ◌%◌, ◌<◌, ◌≤◌, List, length, get_or, take, drop, map, refl, sym, ◌∙◌, ap, subst, arith, All, Bool, ◌++◌, None, Some, Ok, Err, rules, if◌then◌else◌, ◌^◌, min, length-append, Option, Result, IfOk, IfErr, inl, inr, [], ◌∷◌, replicate, append_assoc, true, false, zip}
 pub use Rattle.devices.proofs.UpTo.{UpTo, appended-nothing, up-all, up-next, up-partway, up-start, up-then}
 unfoldable pub use Rattle.devices.specs.Failures.{HasFailed}
 pub use Rattle.devices.specs.Sinks.{Appended, FailedPartway}
@@ -29,11 +30,11 @@ pub use Rattle.nc_walk.specs.code.Slabs.{AreSlabsOf, IsCursor, IsOffset, IsSized
 unfoldable pub use Rattle.nc_walk.specs.code.Slabs.{offsets_from}
 pub use Rattle.devices.specs.Uses.{Use, between, use_of}
 pub use Rattle.nc_walk.specs.code.Walked.{Gives, GivesChunk, GivesCut, GivesEnd, GivesFailure, HasRead, IsChunk, Pass, StoredNumbers, Walked, going_on, offsets_in, total_in, whole_count, whole_in}
-pub use Rattle.nc_walk.specs.code.Walks.{Advanced, Answer, Exactly, Failing, IsWhole, ReadValues, Reading, ReturnsValues, Starts, Steps, Truncated, WalkView, as_answer, count, reading, standing, stopped}
+pub use Rattle.nc_walk.specs.code.Walks.{Advanced, Answer, Exactly, Failing, IsWhole, ReadValues, Reading, ReturnsValues, Starts, Steps, Truncated, WalkView, as_answer, count, reading, standing, stopped, Reads}
 pub use Rattle.nc_walk.specs.declared.{cursor.Cursor.Cursor, slabs.Slabs.Slabs, write.record_slab.RecordSlab.RecordSlab}
-pub use Rattle.std.proofs.Math.Nat.{div-mul-le_self, le_of_mul-le-mul_right, lt_of_mul-lt-mul_right, mul-div_cancel, mul-le-mul_left, mul-le-mul_right, mul-sub}
+pub use Rattle.std.proofs.Math.Nat.{div-mul-le_self, le_of_mul-le-mul_right, lt_of_mul-lt-mul_right, mul-div_cancel, mul-le-mul_left, mul-le-mul_right, mul-sub, mod-lt}
 pub use Rattle.std.proofs.Math.Seq.{drop-nil, take-add, take-append-add, take-append_seam, take-nil}
-pub use Rattle.std.proofs.lemmas.Bool.{cases_lt, le-ltb, lt-ltb, ltb-false}
+pub use Rattle.std.proofs.lemmas.Bool.{cases_lt, le-ltb, lt-ltb, ltb-false, eqb-true, eq-eqb}
 pub use Rattle.std.proofs.lemmas.List.{append-nil, drop-drop, drop-map, drop_all, drop_at, drop_more, get_or-drop, get_or-take, length-drop, length-map, length-replicate, length-take, map-append, nil_from_length, replicate-append-replicate, take-append-le, take-map, take-replicate, take_all, take_at, take_min}
 pub use Rattle.std.proofs.lemmas.List.Elements.{All-append, All-from_get_or, All-get_or, All-map, All-nil, All-weaker}
 pub use Rattle.std.proofs.lemmas.List.Folds.{concat-append}
@@ -43,3 +44,5 @@ pub use Rattle.std.proofs.lemmas.Result.{err_from_is_err_and}
 pub use Rattle.std.specs.Bool.{OnTrue}
 pub use Rattle.std.specs.List.{concat, flat_map, position_or_len, range_with_len}
 pub use Rattle.nc_base.proofs.Tests.{some_right}
+pub use Rattle.nc_walk.specs.declared.fault.WalkFault.TheVariants.{ReadFailed, DataTruncated}
+pub use borrow.Rule.Slice.PartMut.{put_mid, same_len_mid}

@@ -1,6 +1,5 @@
 -- A unit of eight bytes that is repeated.
-use Rattle.std.proofs.Common.{◌≡◌, ℕ, zero, suc, ◌+◌, ◌-◌, ◌*◌, ◌<◌, ◌≤◌, inl, inr, List, [], ◌∷◌, ◌++◌, length, take, drop, replicate, refl, sym, ◌∙◌, ap, arith, append_assoc, min}
-use Rattle.nc_walk.proofs.Prelude.{concat, flat_map, mul-le-mul_left, cases_lt, take-append-le, repeated, length-replicated, take-nil, drop-nil, take_min}
+use Rattle.nc_walk.proofs.Prelude.{◌≡◌, ℕ, zero, suc, ◌+◌, ◌-◌, ◌*◌, ◌<◌, ◌≤◌, inl, inr, List, [], ◌∷◌, ◌++◌, length, take, drop, replicate, refl, sym, ◌∙◌, ap, arith, append_assoc, min, concat, flat_map, mul-le-mul_left, cases_lt, take-append-le, repeated, length-replicated, take-nil, drop-nil, take_min}
 
 -- ---- joined lists
 

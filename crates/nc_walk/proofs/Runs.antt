@@ -1,6 +1,5 @@
 -- Values that lie side by side.
-use Rattle.std.proofs.Common.{◌≡◌, ℕ, zero, suc, ◌+◌, ◌-◌, ◌*◌, ◌/◌, ◌%◌, ◌<◌, ◌≤◌, List, length, get_or, take, drop, map, refl, sym, ◌∙◌, ap, subst, arith, All}
-use Rattle.nc_walk.proofs.Prelude.{concat, drop-drop, length-map-range_with_len, take-map-range_with_len, get_or-map-range_with_len, take-add, div-mul-add, mod-mul-add, div_below, div-add-mod', mul-le-mul_right, bytes_at, Slabs, total, offset, offsets_from, Ready, IsWhole}
+use Rattle.nc_walk.proofs.Prelude.{◌≡◌, ℕ, zero, suc, ◌+◌, ◌-◌, ◌*◌, ◌/◌, ◌%◌, ◌<◌, ◌≤◌, List, length, get_or, take, drop, map, refl, sym, ◌∙◌, ap, subst, arith, All, concat, drop-drop, length-map-range_with_len, take-map-range_with_len, get_or-map-range_with_len, take-add, div-mul-add, mod-mul-add, div_below, div-add-mod', mul-le-mul_right, bytes_at, Slabs, total, offset, offsets_from, Ready, IsWhole}
 
 pub offset_at : (l : Slabs) (r p : ℕ) → p < l.values_per_slab → offset l (r * l.values_per_slab + p) ≡ l.begin + r * l.stride + p * l.size
 offset_at l r p lt = ap (λ (x : ℕ). l.begin + x * l.stride + (r * l.values_per_slab + p) % l.values_per_slab * l.size) (div-mul-add r l.values_per_slab p lt) ∙ ap (λ (x : ℕ). l.begin + r * l.stride + x * l.size) (mod-mul-add r l.values_per_slab p lt)

@@ -1,6 +1,5 @@
 -- The slabs of a variable of a sound header.
-use Rattle.std.proofs.Common.{◌≡◌, ℕ, ◌+◌, ◌-◌, ◌*◌, ◌/◌, ◌%◌, ◌<◌, length, get_or, map, sym, ◌∙◌, ap, subst, arith, if◌then◌else◌}
-use Rattle.nc_walk.proofs.Prelude.{range_with_len, All-get_or, div-add-mod', Var, Header, size_of, is_record_var, record_size, slab_count, IsSound, IsSoundVar, some_count, Slabs, total, offset, offsets_from, offsets_after, slabs_of, IsSized, AreSlabsOf}
+use Rattle.nc_walk.proofs.Prelude.{◌≡◌, ℕ, ◌+◌, ◌-◌, ◌*◌, ◌/◌, ◌%◌, ◌<◌, length, get_or, map, sym, ◌∙◌, ap, subst, arith, if◌then◌else◌, range_with_len, All-get_or, div-add-mod', Var, Header, size_of, is_record_var, record_size, slab_count, IsSound, IsSoundVar, some_count, Slabs, total, offset, offsets_from, offsets_after, slabs_of, IsSized, AreSlabsOf}
 use Rattle.std.proofs.lemmas.Option.{slice_get_read}
 use Rattle.nc_walk.proofs.Orders.{at_first, shifted, offsets_in_order}
 

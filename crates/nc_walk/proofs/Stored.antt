@@ -1,6 +1,5 @@
 -- The bytes of whole values, and their numbers.
-use Rattle.std.proofs.Common.{◌≡◌, ℕ, ◌+◌, List, ◌++◌, length, take, drop, map, sym, ◌∙◌, ap, All, arith, rules}
-use Rattle.nc_walk.proofs.Prelude.{concat, take-add, take-map, drop-map, concat-append, All-map, All-weaker, NcType, Header, Var, size_of, number_of, numbers, bytes_at, value_offsets, stored_bytes, stored_values, numbers-concat, length-whole, IsWhole, StoredNumbers}
+use Rattle.nc_walk.proofs.Prelude.{◌≡◌, ℕ, ◌+◌, List, ◌++◌, length, take, drop, map, sym, ◌∙◌, ap, All, arith, rules, concat, take-add, take-map, drop-map, concat-append, All-map, All-weaker, NcType, Header, Var, size_of, number_of, numbers, bytes_at, value_offsets, stored_bytes, stored_values, numbers-concat, length-whole, IsWhole, StoredNumbers}
 use Rattle.nc_walk.proofs.Missing.{whole_before}
 
 -- ---- whole values

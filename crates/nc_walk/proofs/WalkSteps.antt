@@ -1,7 +1,5 @@
 -- A walk from call to call, as its caller sees it.
-use Rattle.std.proofs.Common.{◌≡◌, ℕ, ◌+◌, ◌-◌, ◌*◌, ◌≤◌, Bool, List, ◌++◌, length, take, drop, sym, ◌∙◌, ap, subst, arith, length-drop, None, Some, Ok, Err, All}
-use Rattle.nc_walk.proofs.Prelude.{mul-le-mul_right, take-add, drop-drop, get_or-drop, All-nil, All-append, Header, Var, size_of, numbers, value_count, value_offsets, HasFailed, SourceView, having_read, WalkView, Answer, IsWhole, Starts, Exactly, ReturnsValues, Failing, Truncated, Steps, Advanced, count, Pass, offsets_in, total_in, whole_in, going_on, Walked, HasRead, IsChunk, GivesChunk, GivesEnd, GivesCut, GivesFailure, Gives}
-use Rattle.nc_walk.specs.declared.fault.WalkFault.TheVariants.{ReadFailed, DataTruncated}
+use Rattle.nc_walk.proofs.Prelude.{◌≡◌, ℕ, ◌+◌, ◌-◌, ◌*◌, ◌≤◌, Bool, List, length, take, drop, ◌∙◌, ap, subst, arith, length-drop, None, Some, Ok, Err, All, mul-le-mul_right, take-add, drop-drop, get_or-drop, All-nil, All-append, Header, Var, size_of, numbers, value_count, value_offsets, HasFailed, SourceView, having_read, WalkView, Answer, IsWhole, Starts, Exactly, ReturnsValues, Failing, Truncated, Steps, Advanced, count, Pass, offsets_in, total_in, whole_in, going_on, Walked, HasRead, IsChunk, GivesChunk, GivesEnd, GivesCut, GivesFailure, Gives, ReadFailed, DataTruncated}
 use Rattle.nc_walk.proofs.FullReadSteps.{transparent_any, transparent_map, transparent_both, after_after}
 use Rattle.nc_walk.proofs.Missing.{missing_at, none_missing, whole_count-ge}
 use Rattle.nc_walk.proofs.Orders.{count_of_offsets}

@@ -52,6 +52,7 @@ impl Slabs {
     /// so that one read can take values of many records. Otherwise they stay as they are, and also if there are no values, or more than a
     /// `u64` can count. No clause says which of the two is done. Needs at least one value in a slab, values of 1 to 8 bytes, and a `stride`
     /// of at most 2^62.
+    #[tactic(auto, using(crate::proofs::SlabSteps::joined_offsets))]
     fn joined(self) -> Slabs
         requires { IsSized self }
         ensures size { result.size ≡ self.size }

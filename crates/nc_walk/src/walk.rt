@@ -71,6 +71,7 @@ impl<'a> Walk<'a> {
     /// is for a caller that walks over many variables of one file: it takes time in proportion to the variable's rank alone, while
     /// [`Walk::new`] computes the record size anew. Needs a sound header (`nc_base::Header::sound`), a variable at this index, the header's
     /// record size in `layout`, as `nc_base::record_layout` returns it, and a buffer of at least 16 bytes.
+    #[tactic(auto, using(crate::proofs::Orders::starts))]
     pub fn with_layout(
         header: &Header,
         v: usize,

@@ -1,12 +1,10 @@
 -- Whose failure it was, where one call follows another.
-use Rattle.std.proofs.Common.{◌≡◌, Result, Err, arith}
+use Rattle.ncdump.proofs.Prelude.{◌≡◌, Result, Err, arith, SourceView, SinkView, DumpFault, ReadFailsOnly, ShowsOrFails, OfDump, OpensFile}
 use Rattle.devices.specs.Failures.{HasFailed}
 use Rattle.devices.specs.Openers.{OpenerView}
 use Rattle.devices.specs.code.PathOpens.{HasBack, OpensOnce}
 use Rattle.devices.proofs.Openings.{one_failure, no_failure}
-use Rattle.ncdump.proofs.Prelude.{SourceView, SinkView, DumpFault, ReadFailsOnly, ShowsOrFails}
 use Rattle.ncdump.specs.declared.fault.FileFault.{FileFault}
-use Rattle.ncdump.specs.Runs.{OfDump, OpensFile}
 
 pub fails-after : (old mid new : SinkView) (fault : DumpFault) → mid.failures ≡ old.failures → ShowsOrFails {A = Unit {0}} mid new (Err fault) → ShowsOrFails {A = Unit {0}} old new (Err fault)
 fails-after old mid new fault h h2 = grind arith

@@ -1,6 +1,5 @@
 -- A walk, and a call, by the devices that they begin and end with.
-use Rattle.std.proofs.Common.{ℕ, Bool}
-use Rattle.ncdump.proofs.Prelude.{Header, Var, SourceView, SinkView, between, Pass}
+use Rattle.ncdump.proofs.Prelude.{ℕ, Bool, Header, Var, SourceView, SinkView, between, Pass}
 use Rattle.ncdump.specs.Calls.{Call}
 
 abbrev pub pass : Bool → Header → Var → ℕ → ℕ → SourceView → SourceView → Pass

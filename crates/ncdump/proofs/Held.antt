@@ -1,6 +1,5 @@
 -- What a sink goes on to hold.
-use Rattle.std.proofs.Common.{◌≡◌, ℕ, ◌≤◌, true, List, [], ◌++◌, length, sym, append_assoc, subst, Option, Some, is_some, option_map, unwrap_or, arith, rules}
-use Rattle.ncdump.proofs.Prelude.{OnTrue_at, OnTrue_from, append-nil, SinkView, append, taken_len, is_transparent, IsPrefixIf, IsCut, Appended, FailedPartway, append-++, cut-append, split_prefix, transparent-append, Holds}
+use Rattle.ncdump.proofs.Prelude.{◌≡◌, ℕ, ◌≤◌, true, List, [], ◌++◌, length, sym, append_assoc, subst, Option, Some, is_some, option_map, unwrap_or, arith, rules, OnTrue_at, OnTrue_from, append-nil, SinkView, append, taken_len, is_transparent, IsPrefixIf, IsCut, Appended, FailedPartway, append-++, cut-append, split_prefix, transparent-append, Holds}
 
 prefix-trans : (a b c : Option (List ℕ)) → IsPrefixIf a b → IsPrefixIf b c → IsPrefixIf a c
 prefix-trans a b c h h2 = grind (arith, append_assoc)

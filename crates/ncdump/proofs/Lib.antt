@@ -1,13 +1,9 @@
 pub mod Calls
-pub mod CommandLines
-pub mod NameSets
-pub mod Unknown
 pub mod Prefixes
 pub mod Held
 pub mod OneVariable
 pub mod Selected
 pub mod Blame
-pub mod Flushed
 pub mod WholeText
 pub mod DumpLaws
 pub mod OneDump

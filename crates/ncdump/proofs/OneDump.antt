@@ -1,6 +1,5 @@
 -- There is one dump of a file.
-use Rattle.std.proofs.Common.{◌≡◌, ℕ, List, [], length, refl, ap, arith, rules, inl, inr, Option, Some, None, Result, Ok, Err, ◌⊎◌}
-use Rattle.ncdump.proofs.Prelude.{Header, record_count, SpellsHeader, Options, Ending, whole, wrong_field, no_such_variable, data_truncated, first_unknown, values_in_file, shown_data_text, selection_of, dump_text, IsDump, stopped, unknown, shown, SinkView, Appended, DumpFault, Format, NoSuchVariable, DataTruncated}
+use Rattle.ncdump.proofs.Prelude.{◌≡◌, ℕ, List, [], length, refl, ap, arith, rules, inl, inr, Option, Some, None, Result, Ok, Err, ◌⊎◌, Header, record_count, SpellsHeader, Options, Ending, whole, wrong_field, no_such_variable, data_truncated, first_unknown, values_in_file, shown_data_text, selection_of, dump_text, IsDump, stopped, unknown, shown, SinkView, Appended, DumpFault, Format, NoSuchVariable, DataTruncated}
 use Rattle.nc_file.specs.OneOutcome.{BeginsWithHeader, HasFirstFault, HasOneOutcome}
 use Rattle.nc_file.proofs.Outcomes.{one-outcome}
 use Rattle.ncdump.specs.OneDump.{HasDumped, BytesHaveOneDump, DumpsAgree}

@@ -1,6 +1,5 @@
 -- Showing one variable: a walk and a printer that go on together.
-use Rattle.std.proofs.Common.{◌≡◌, ℕ, ◌+◌, ◌*◌, ◌≤◌, inl, inr, Bool, List, [], ◌++◌, length, take, refl, sym, ap, ◌∙◌, append_assoc, subst, arith, Option, Some, None, Ok, Err, ℤ, slice_get, unwrap_or, IfSome, rules}
-use Rattle.ncdump.proofs.Prelude.{IsWide, wide_look, OnTrue, take-add, append-nil, take_all, length-append, Header, Var, size_of, numbers, value_count, stored_values, first_missing, Look, look_of, variable_opening, variable_closing, variable_prefix, variable_text, later_pieces, no_data_text, whole, data_truncated, with_variable, prefix-append, prefix_nil, SourceView, having_read, SinkView, Appended, FailedPartway, appended_then, appended_partway, Pass, Walked, HasRead, IsChunk, GivesChunk, GivesEnd, GivesCut, GivesFailure, transparent_any, transparent_map, transparent_both, look_in, HasPrinted, Printed, Stopped, Takes, Dumped, dumped, whole_values, whole_bytes, Holds, IsShown, IsUnread, IsUnwritten, look-type}
+use Rattle.ncdump.proofs.Prelude.{◌≡◌, ℕ, ◌+◌, ◌*◌, ◌≤◌, inl, inr, Bool, List, [], ◌++◌, length, take, refl, sym, ap, ◌∙◌, append_assoc, subst, arith, Option, Some, None, Ok, Err, ℤ, slice_get, unwrap_or, IfSome, rules, IsWide, wide_look, OnTrue, take-add, append-nil, take_all, length-append, Header, Var, size_of, numbers, value_count, stored_values, first_missing, Look, look_of, variable_opening, variable_closing, variable_prefix, variable_text, later_pieces, no_data_text, whole, data_truncated, with_variable, prefix-append, prefix_nil, SourceView, having_read, SinkView, Appended, FailedPartway, appended_then, appended_partway, Pass, Walked, HasRead, IsChunk, GivesChunk, GivesEnd, GivesCut, GivesFailure, transparent_any, transparent_map, transparent_both, look_in, HasPrinted, Printed, Stopped, Takes, Dumped, dumped, whole_values, whole_bytes, Holds, IsShown, IsUnread, IsUnwritten, look-type}
 use Rattle.std.proofs.Math.Nat.{mul-le-mul_right}
 use Rattle.nc_walk.specs.code.Walks.{WalkView, Starts, Steps, Advanced, count}
 use Rattle.nc_walk.specs.declared.fault.WalkFault.TheVariants as walk

@@ -1,6 +1,5 @@
 -- Fronts of a variable's text.
-use Rattle.std.proofs.Common.{◌≡◌, ℕ, ◌+◌, ◌-◌, ◌≤◌, ◌<◌, min, List, [], ◌++◌, length, take, drop, sym, ap, ◌∙◌, append_assoc, arith, Option, Some, None, ℤ, unwrap_or, rules}
-use Rattle.ncdump.proofs.Prelude.{wide_look, length-take, take-add, take_all, length-map, Var, value_count, stored_values, first_missing, Look, look_of, variable_prefix, variable_text, later_pieces, variable_closing, no_data_text, with_variable, prefix-append, Dumped, prefix_text, values_alone, whole_values}
+use Rattle.ncdump.proofs.Prelude.{◌≡◌, ℕ, ◌+◌, ◌-◌, ◌≤◌, ◌<◌, min, List, [], ◌++◌, length, take, drop, sym, ap, ◌∙◌, append_assoc, arith, Option, Some, None, ℤ, unwrap_or, rules, wide_look, length-take, take-add, take_all, length-map, Var, value_count, stored_values, first_missing, Look, look_of, variable_prefix, variable_text, later_pieces, variable_closing, no_data_text, with_variable, prefix-append, Dumped, prefix_text, values_alone, whole_values}
 use Rattle.nc_walk.proofs.Orders.{count_of_offsets}
 
 -- as many values are stored as the variable has

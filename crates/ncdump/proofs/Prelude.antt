@@ -1,4 +1,5 @@
 -- The names that proofs of this crate cite from elsewhere, passed on from one place.
+pub use Rattle.std.proofs.Common.{◌≡◌, ℕ, inl, inr, Bool, List, [], ◌++◌, refl, sym, ap, ◌∙◌, append_assoc, subst, Ok, Err, rules, ◌≤◌, true, length, Option, Some, is_some, option_map, unwrap_or, arith, Result, not, position, ◌||◌, Bor, cond, ◌+◌, ◌*◌, take, None, ℤ, slice_get, IfSome, ◌<◌, ◌⊎◌, false, ◌∷◌, drop, get_or, ◌&&◌, if◌then◌else◌, ◌-◌, min, ◌^◌, tests, option_and_then, IsSomeAnd, IfOk, nat_lt, ap₂, codes, map, lit<}
 pub use Rattle.cdl_print.proofs.Begun.{appended_none}
 pub use Rattle.cdl_print.specs.code.Printer.{HasPrinted, Printed, Stopped, Takes, look_in}
 pub use Rattle.clap.specs.Words.{app_of, is_simple, is_simple_and_free, new_app, new_rule, rule_of, with_rule}
@@ -29,17 +30,18 @@ pub use Rattle.nc_walk.specs.code.Walked.{GivesChunk, GivesCut, GivesEnd, GivesF
 pub use Rattle.ncdump.specs.CommandLine.{width_said}
 pub use Rattle.ncdump.specs.code.Options.{asked_for}
 unfoldable pub use Rattle.ncdump.specs.CommandLine.{asked_by, asked_in, ncdump}
-pub use Rattle.ncdump.specs.Dumps.{Dumps, IsAfterHeader, ReadsForward, in_header, options_of}
+pub use Rattle.ncdump.specs.Dumps.{Dumps, IsAfterHeader, ReadsForward, in_header, options_of, WriteFailsOnly}
 pub use Rattle.ncdump.specs.code.Names.{holds, holds_if}
 pub use Rattle.ncdump.specs.code.Shows.{AreShown, AreUnread, AreUnwritten, Dumped, Holds, IsBefore, IsShown, IsUnread, IsUnwritten, IsUpToDate, KeepsUp, KeepsUpIn, ReadFailsOnly, Shows, ShowsAt, ShowsOne, ShowsOrFails, ShowsSelected, bytes_of, dumped, prefix_text, selected_values, text_before, unless_head_only, values_alone, values_and, values_from, whole_bytes, whole_values}
 pub use Rattle.ncdump.specs.declared.fault.DumpFault.{DumpFault}
 pub use Rattle.ncdump.specs.declared.fault.DumpFault.TheVariants.{DataTruncated, Format, NoSuchVariable, OutOfMemory, ReadFailed, WriteFailed}
 pub use Rattle.std.proofs.Math.Seq.{drop-cons, take-add}
 pub use Rattle.std.proofs.lemmas.Bool.{OnTrue_at, OnTrue_from}
-pub use Rattle.std.proofs.lemmas.Iterator.Consumers.{YieldsList-at}
+pub use Rattle.std.proofs.lemmas.Iterator.Consumers.{YieldsList-at, YieldsList-end}
 pub use Rattle.std.proofs.lemmas.List.{length-take, append-nil, drop_all, length-append, length-map, take_all}
 pub use Rattle.std.proofs.lemmas.Option.{get_or_from_slice_get, slice_get-get_or, slice_get_within}
 pub use Rattle.std.proofs.lemmas.Result.{IfOk-weaker, err_from_is_err_and}
 pub use Rattle.std.specs.Bool.{OnTrue, then_some}
 pub use Rattle.std.specs.List.{list_all, list_any}
 pub use Rattle.std.specs.Str.{bytes_eq}
+pub use Rattle.ncdump.specs.Runs.{OfDump, OpensFile, Run, DumpsAsked}

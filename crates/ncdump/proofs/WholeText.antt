@@ -1,6 +1,5 @@
 -- The text of a dump from its parts.
-use Rattle.std.proofs.Common.{◌≡◌, ℕ, inl, inr, Bool, List, [], ◌++◌, refl, sym, ap, ◌∙◌, append_assoc, subst, Ok, Err, rules}
-use Rattle.ncdump.proofs.Prelude.{append-nil, Header, head_text, Options, DataText, Ending, whole, data_truncated, data_word, closing_word, dump_text, SourceView, SinkView, Appended, FailedPartway, appended_then, appended_partway, DumpFault, ReadFailed, WriteFailed, DataTruncated, Dumped, dumped, selected_values, text_before, unless_head_only, KeepsUpIn, IsUpToDate, Holds, ShowsSelected, Shows, between}
+use Rattle.ncdump.proofs.Prelude.{◌≡◌, ℕ, inl, inr, Bool, List, [], ◌++◌, refl, sym, ap, ◌∙◌, append_assoc, subst, Ok, Err, rules, append-nil, Header, head_text, Options, DataText, Ending, whole, data_truncated, data_word, closing_word, dump_text, SourceView, SinkView, Appended, FailedPartway, appended_then, appended_partway, DumpFault, ReadFailed, WriteFailed, DataTruncated, Dumped, dumped, selected_values, text_before, unless_head_only, KeepsUpIn, IsUpToDate, Holds, ShowsSelected, Shows, between}
 use Rattle.nc_base.specs.Bytes.{concat_parts}
 use Rattle.cdl_print.specs.code.Words.{word_text}
 use Rattle.cdl_print.specs.declared.word.FixedText.TheVariants.{End}
@@ -66,14 +65,7 @@ module _ (o : Options) (h : Header) (n : ℕ) (shown : List Bool) (buffer_len : 
 
       -- all is written
       pub all-written : (new : SinkView) → Appended last new (closing_word whole) → Shows {A = Unit {0}} o h n shown (call buffer_len a c old new) (Ok tt)
-      all-written new appended = record {
-        ends = s.0.ends;
-        taken = subst (Appended old new)
-            (append_assoc (text_before o h n) section.text (closing_word whole) ∙ ap (λ (e : Ending). text_before o h n ++ (section.text ++ closing_word e)) (sym s.0.ends) ∙ sym (parts h o n section))
-            (appended_then old last new (text_before o h n ++ section.text) (closing_word whole) (appended_then old mid last (text_before o h n) section.text before s.0.taken) appended);
-        bytes = s.0.bytes;
-        most = s.0.most;
-      }
+      all-written new appended = search (rules, parts, section, append_assoc, appended_then)
 
 pub brace : word_text End ≡ closing_word whole
 unfolding closing_word

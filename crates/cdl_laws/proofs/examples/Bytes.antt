@@ -1,6 +1,5 @@
 -- Which bytes belong to each class, and what each escape of a string stands for, over all bytes, by computation.
-use Rattle.std.proofs.Common.{◌≡◌, ℕ, Bool, List, [], ◌∷◌, ◌++◌, refl, codes, filter, map, not, ◌==◌, if◌then◌else◌, None, Some, Option, is_some}
-use Rattle.cdl_laws.proofs.Prelude.{is_mark_byte, to_ascii_lowercase, list_all, range_with_len, digit_value, is_blank, is_digit, is_octal, is_hex, may_begin_word, goes_on_word, goes_on_number, is_sign, is_escape, plain_escape, unescape, unescape_at, string_value, character}
+use Rattle.cdl_laws.proofs.Prelude.{◌≡◌, ℕ, Bool, List, [], ◌∷◌, ◌++◌, refl, codes, filter, map, not, ◌==◌, if◌then◌else◌, None, Some, Option, is_some, is_mark_byte, to_ascii_lowercase, list_all, range_with_len, digit_value, is_blank, is_digit, is_octal, is_hex, may_begin_word, goes_on_word, goes_on_number, is_sign, is_escape, plain_escape, unescape, unescape_at, string_value, character}
 
 abbrev all_bytes : List ℕ
 all_bytes = range_with_len 0 256

@@ -1,6 +1,5 @@
 -- A dataset that a text can declare.
-use Rattle.std.proofs.Common.{zero, suc, [], ◌∷◌, refl, arith, All, codes}
-use Rattle.cdl_laws.proofs.Prelude.{are_bytes, is_utf8, chars, AreBytes, Dataset, Att, Dim, Known, Var, Short, Cdf1, IsGood, IsSoundVar, IsSoundDim, IsName, IsSayable, IsSayableVar}
+use Rattle.cdl_laws.proofs.Prelude.{zero, suc, [], ◌∷◌, refl, arith, All, codes, are_bytes, is_utf8, chars, AreBytes, Dataset, Att, Dim, Known, Var, Short, Cdf1, IsGood, IsSoundVar, IsSoundDim, IsName, IsSayable, IsSayableVar}
 use lib.Utf8.{encode}
 
 abbrev dim : Dim

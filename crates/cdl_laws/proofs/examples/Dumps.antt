@@ -1,6 +1,5 @@
 -- The text of a few datasets is read back, and where the laws end, by computation.
-use Rattle.std.proofs.Common.{◌≡◌, ℕ, List, [], ◌∷◌, ◌++◌, map, refl, codes, Result, Ok, Err, true, Bool}
-use Rattle.cdl_laws.proofs.Prelude.{Dataset, Att, Byte, Char, Short, Ubyte, Int64, Cdf5, trimmed, CdlFault, meaning, has_cut_fill}
+use Rattle.cdl_laws.proofs.Prelude.{◌≡◌, ℕ, List, [], ◌∷◌, ◌++◌, map, refl, codes, Result, Ok, Err, true, Bool, Dataset, Att, Byte, Char, Short, Ubyte, Int64, Cdf5, trimmed, CdlFault, meaning, has_cut_fill}
 use Rattle.nc_base.proofs.examples.Written.{dim, att, var, dataset}
 use Rattle.cdl_laws.proofs.examples.Written.{text_of, texts_computed, dumps_computed}
 

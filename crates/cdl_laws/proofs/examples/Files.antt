@@ -1,7 +1,6 @@
 -- Texts with a dataset, and the files of their datasets, byte by byte, by computation.
 use Prim.Native.String.{String}
-use Rattle.std.proofs.Common.{◌≡◌, ℕ, List, [], ◌∷◌, ◌++◌, refl, codes, Bool, true, false, drop, map, nat_lt}
-use Rattle.cdl_laws.proofs.Prelude.{Header, Known, Var, Byte, Int, Version, Cdf1, Cdf2, Cdf5, with_begins, offset_limit}
+use Rattle.cdl_laws.proofs.Prelude.{◌≡◌, ℕ, List, [], ◌∷◌, ◌++◌, refl, codes, Bool, true, false, drop, map, nat_lt, Header, Known, Var, Byte, Int, Version, Cdf1, Cdf2, Cdf5, with_begins, offset_limit}
 use Rattle.nc_base.specs.Parts.{print}
 use Rattle.nc_base.specs.Grammar.{var_part, strict}
 use Rattle.nc_base.proofs.examples.Written.{hex, dim, var, files_computed}

@@ -1,7 +1,6 @@
 -- The datasets of a few texts, and sizes at their limits, by computation.
 use Prim.Native.String.{String}
-use Rattle.std.proofs.Common.{◌≡◌, ℕ, List, [], ◌∷◌, ◌^◌, refl, Bool, true, false, ℤ, pos, codes, map, Some, Ok}
-use Rattle.cdl_laws.proofs.Prelude.{Dataset, NcType, Byte, Char, Short, Int, Ubyte, Cdf1, Cdf5, Ended, State, Draft, is_sound, meaning, are_within_limits}
+use Rattle.cdl_laws.proofs.Prelude.{◌≡◌, ℕ, List, [], ◌∷◌, ◌^◌, refl, Bool, true, false, ℤ, pos, codes, map, Some, Ok, Dataset, NcType, Byte, Char, Short, Int, Ubyte, Cdf1, Cdf5, Ended, State, Draft, is_sound, meaning, are_within_limits}
 use Rattle.nc_base.proofs.examples.Written.{dim, att, var, dataset}
 use Rattle.cdl_statements.specs.Bounds.{text_limit}
 use Rattle.cdl_laws.proofs.examples.Written.{texts_computed}

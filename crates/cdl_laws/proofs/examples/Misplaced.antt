@@ -1,6 +1,5 @@
 -- Statements with a token that may not stand where it stands, each kind of statement beside one that is right, by computation.
-use Rattle.std.proofs.Common.{[], ◌∷◌, refl}
-use Rattle.cdl_laws.proofs.Prelude.{Cdf1, BadToken, Syntax, WrongKind}
+use Rattle.cdl_laws.proofs.Prelude.{[], ◌∷◌, refl, Cdf1, BadToken, Syntax, WrongKind}
 use Rattle.cdl_laws.proofs.examples.Written.{between, fine, at, AreFaults, texts_computed}
 
 misplaced : AreFaults (

@@ -1,6 +1,5 @@
 -- Texts with a fault, each with the line and the kind of its first one, by computation.
-use Rattle.std.proofs.Common.{◌≡◌, List, ℕ, [], ◌∷◌, ◌++◌, refl, codes, map, length, take, replicate, Some, None, Option}
-use Rattle.cdl_laws.proofs.Prelude.{range_with_len, Cdf1, Cdf2, Cdf5, CdlFault, CdlKind, BadToken, BadNumber, Syntax, BadName, DuplicateName, UnknownDimension, UnknownVariable, FloatingType, UnknownType, ZeroDimension, TwoRecordDims, BadShape, MixedConstants, NumberRange, WrongKind, TooManyValues, StringTooLong, DuplicateData, TooLarge, statements, meaning}
+use Rattle.cdl_laws.proofs.Prelude.{◌≡◌, List, ℕ, [], ◌∷◌, ◌++◌, refl, codes, map, length, take, replicate, Some, None, Option, range_with_len, Cdf1, Cdf2, Cdf5, CdlFault, CdlKind, BadToken, BadNumber, Syntax, BadName, DuplicateName, UnknownDimension, UnknownVariable, FloatingType, UnknownType, ZeroDimension, TwoRecordDims, BadShape, MixedConstants, NumberRange, WrongKind, TooManyValues, StringTooLong, DuplicateData, TooLarge, statements, meaning}
 use Rattle.cdl_laws.proofs.examples.Written.{fault, between, fine, at, AreFaults, texts_computed}
 
 abbrev kind : Option CdlFault → Option CdlKind

@@ -1,6 +1,5 @@
 -- The tokens of a few texts, their pieces, and what words and numbers say, by computation.
-use Rattle.std.proofs.Common.{◌≡◌, ℕ, List, [], ◌∷◌, refl, true, false, ℤ, pos, neg_ℤ, codes, length, map, Option, None, Some}
-use Rattle.cdl_laws.proofs.Prelude.{NcType, Byte, Short, Int, Ubyte, Ushort, Uint, Int64, Uint64, Cdf5, is_reserved, Scanned, Token, TokenKind, Word, Text, Bad, unescape_at, character, word_value, word_len, len_until, scan, tokens, tokens_at, pieces_after, is_section, is_word, is_mark, name_of, statements, TypedNumber, type_of_suffix, numeral, parts}
+use Rattle.cdl_laws.proofs.Prelude.{◌≡◌, ℕ, List, [], ◌∷◌, refl, true, false, ℤ, pos, neg_ℤ, codes, length, map, Option, None, Some, NcType, Byte, Short, Int, Ubyte, Ushort, Uint, Int64, Uint64, Cdf5, is_reserved, Scanned, Token, TokenKind, Word, Text, Bad, unescape_at, character, word_value, word_len, len_until, scan, tokens, tokens_at, pieces_after, is_section, is_word, is_mark, name_of, statements, TypedNumber, type_of_suffix, numeral, parts}
 use Rattle.cdl_tokens.specs.declared.token.TokenKind.TheVariants.{Opening, Number, Mark, End}
 
 -- f gives what stands beside the texts of each row

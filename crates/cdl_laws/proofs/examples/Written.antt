@@ -1,8 +1,6 @@
 -- Words in which examples are written down, and what a proof unfolds to compute them.
 use Prim.Native.String.{String}
-use Rattle.std.proofs.Common.{◌≡◌, ℕ, List, [], ◌∷◌, ◌++◌, codes, map, Some, None, Option, Result, Ok, Err, false}
-use Rattle.std.specs.Prelude.{⊤}
-use Rattle.cdl_laws.proofs.Prelude.{is_utf8, chars, Dataset, Version, Cdf1, Options, dump_text, shown_data_text, values_in_dataset, selection_of, data_word, closing_word, is_reserved, fill_value, file_of, dimensions_word, unlimited_word, currently_word, variables_word, global_word, netcdf_word, string_break, numbers_text, chars_text, att_line, att_lines, dim_len_text, dim_line, dim_lines, dims_text, shape_text, var_lines, vars_text, gatts_text, head_text, numbers, look_of, word_len, len_until, scan, unescape_at, character, word_value, tokens_at, type_of_suffix, numeral, parts, CdlFault, CdlKind, pieces_after, is_section, name_of, shape, act, has_number, add_dim, type_of, add_dimid, add_var, change_variable, add_att, takes_of, run, piece_read, meaning, finished, are_within_limits, is_sound}
+use Rattle.cdl_laws.proofs.Prelude.{◌≡◌, ℕ, List, [], ◌∷◌, ◌++◌, codes, map, Some, None, Option, Result, Ok, Err, false, is_utf8, chars, Dataset, Version, Cdf1, Options, dump_text, shown_data_text, values_in_dataset, selection_of, data_word, closing_word, is_reserved, fill_value, file_of, dimensions_word, unlimited_word, currently_word, variables_word, global_word, netcdf_word, string_break, numbers_text, chars_text, att_line, att_lines, dim_len_text, dim_line, dim_lines, dims_text, shape_text, var_lines, vars_text, gatts_text, head_text, numbers, look_of, word_len, len_until, scan, unescape_at, character, word_value, tokens_at, type_of_suffix, numeral, parts, CdlFault, CdlKind, pieces_after, is_section, name_of, shape, act, has_number, add_dim, type_of, add_dimid, add_var, change_variable, add_att, takes_of, run, piece_read, meaning, finished, are_within_limits, is_sound, ⊤}
 use Rattle.nc_base.proofs.examples.Written.{values_computed}
 use lib.Utf8.{encode}
 

@@ -1,9 +1,6 @@
 -- The files of a few datasets, byte for byte: what a reader doesn't look at (padding, vsize, lists without elements) and the
 -- order of blocks are said by no law.
-use Rattle.std.proofs.Common.{◌≡◌, ◌-◌, ◌^◌, [], ◌∷◌, refl, codes, replicate}
-use Rattle.nc_base.proofs.Prelude.{Dataset, Streaming, Byte, Short, Version, Cdf1, Cdf2, Cdf5, known_records, vsize_of, data_of, file_of}
-use Rattle.nc_base.specs.Parts.{print}
-use Rattle.nc_base.specs.Grammar.{numrecs_part, strict}
+use Rattle.nc_base.proofs.Prelude.{◌≡◌, ◌-◌, ◌^◌, [], ◌∷◌, refl, codes, replicate, Dataset, Streaming, Byte, Short, Version, Cdf1, Cdf2, Cdf5, known_records, vsize_of, data_of, file_of, print, numrecs_part, strict}
 use Rattle.nc_base.proofs.examples.Written.{hex, dim, var, dataset, files_computed}
 
 -- a variable of three shorts, whose block is padded

@@ -1,13 +1,7 @@
 -- Where the first wrong field of a few headers lies: no law says which steps are the right ones.
-use Rattle.std.proofs.Common.{◌≡◌, [], ◌∷◌, ◌++◌, List, map, refl, codes}
-use Rattle.std.specs.Str.{is_utf8, chars}
+use Rattle.nc_base.proofs.Prelude.{◌≡◌, [], ◌∷◌, ◌++◌, List, map, refl, codes, Step, Magic, VersionByte, Records, Dims, Gatts, Vars, Tag, Count, Item, Name, Length, Text, Padding, TypeCode, Values, Shape, Atts, Vsize, Begin, header_part, Bytes, run, place, ⊤, is_utf8, chars}
 use lib.Utf8.{encode}
-use Rattle.nc_base.specs.Bytes.{Bytes}
-use Rattle.nc_base.specs.Parts.{Step, Magic, VersionByte, Records, Dims, Gatts, Vars, Tag, Count, Item, Name, Length, Text, Padding, TypeCode, Values, Shape, Atts, Vsize, Begin}
-use Rattle.nc_base.specs.code.PartRuns.{run, place}
-use Rattle.nc_base.specs.Grammar.{header_part}
 use Rattle.nc_base.proofs.examples.Written.{hex, files_computed}
-use Rattle.std.specs.Prelude.{⊤}
 
 unfoldable places_computed : ⊤
 unfolding files_computed run place is_utf8 chars encode

@@ -1,6 +1,5 @@
 -- What the definitions give for a few names and texts: a change of a table that changes one of these is refused.
-use Rattle.std.proofs.Common.{◌≡◌, ℕ, ℤ, pos, Bool, true, false, List, [], ◌∷◌, length, map, refl, codes}
-use Rattle.nc_base.proofs.Prelude.{escaped_name, escaped_text, variable_text, Int}
+use Rattle.nc_base.proofs.Prelude.{◌≡◌, ℕ, ℤ, pos, Bool, true, false, List, [], ◌∷◌, length, map, refl, codes, escaped_name, escaped_text, variable_text, Int}
 use Rattle.nc_base.proofs.examples.Written.{values_computed}
 
 -- the text of an `int` variable of this name, with rows of this many values if it has rows, in lines of 20 bytes

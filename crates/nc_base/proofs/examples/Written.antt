@@ -1,10 +1,6 @@
 -- Words in which examples are written down, and what a proof unfolds to compute them.
 use Prim.Native.String.{String}
-use Rattle.std.proofs.Common.{ℕ, ◌+◌, ◌*◌, ◌-◌, List, [], ◌∷◌, codes, filter, not, nat_lt, if◌then◌else◌, ◌==◌}
-use Rattle.std.specs.Prelude.{⊤}
-use Rattle.nc_base.proofs.Prelude.{digits, flat_map, Dataset, Att, Dim, Known, Var, NcType, Version, concat_parts, is_reserved, escaped_name, escaped_text, fill_value, fill_bytes, padded_slab, data_of, with_begins, file_of, number_piece, number_pieces, characters_text, variable_opening, variable_closing, variable_prefix, variable_text}
-use Rattle.nc_base.specs.Parts.{print}
-use Rattle.nc_base.specs.Grammar.{number, limited_part, offset_part, ignored, name_part, type_part, each, counted, list_head, list_part, dim_part, dim_list, att_part, att_list, dimid_part, shape_part, var_part, var_list, version_part, magic_part, numrecs_part, header_by}
+use Rattle.nc_base.proofs.Prelude.{ℕ, ◌+◌, ◌*◌, ◌-◌, List, [], ◌∷◌, codes, filter, not, nat_lt, if◌then◌else◌, ◌==◌, digits, flat_map, Dataset, Att, Dim, Known, Var, NcType, Version, concat_parts, is_reserved, escaped_name, escaped_text, fill_value, fill_bytes, padded_slab, data_of, with_begins, file_of, number_piece, number_pieces, characters_text, variable_opening, variable_closing, variable_prefix, variable_text, print, number, limited_part, offset_part, ignored, name_part, type_part, each, counted, list_head, list_part, dim_part, dim_list, att_part, att_list, dimid_part, shape_part, var_part, var_list, version_part, magic_part, numrecs_part, header_by, ⊤}
 
 -- ---- bytes
 

@@ -1,4 +1,4 @@
-use Rattle.std.proofs.Common.{arith}
+use Rattle.cdl_laws.proofs.Prelude.{arith}
 use Rattle.cdl_laws.proofs.MeaningsAreGood.{meanings_are_nearly_sayable}
 use Rattle.cdl_laws.proofs.Trimmed.{fill_value_survives_trim}
 use Rattle.cdl_laws.proofs.laws.meanings_are_sayable.Goals as goal

@@ -1,5 +1,4 @@
-use Rattle.std.proofs.Common.{arith}
-use Rattle.cdl_laws.proofs.Prelude.{IsSayable, trimmed}
+use Rattle.cdl_laws.proofs.Prelude.{arith, IsSayable, trimmed}
 use Rattle.cdl_laws.proofs.MeaningsAreGood.{meanings_are_nearly_sayable, meanings_are_good}
 use Rattle.cdl_laws.proofs.TextReadsBack.{text_reads_back}
 use Rattle.cdl_laws.proofs.Trimmed.{fill_value_survives_trim, trimmed_is_sayable, trims_once}

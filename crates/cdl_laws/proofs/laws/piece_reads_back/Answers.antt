@@ -1,10 +1,7 @@
-use Rattle.std.proofs.Common.{◌≡◌, ℕ, List, [], ◌∷◌, ◌++◌, refl, arith, slice_index_or, Some}
-use Rattle.cdl_laws.proofs.Prelude.{concat_parts, Dim, Version, netcdf_word, IsName, Section, Globals, Dimensions, Variables, Values, scan, pieces_after, Close, shape, SaysStatement, opening_line, opening_piece, brace_piece, AttributeReadsBack, cut_lexemes, lexemes, lexemes_at, pieces_of, Each, all_of, each_map, each_of}
-use Rattle.cdl_laws.proofs.Declarations.{dim_says, Speaks, global_says, owned_says}
+use Rattle.cdl_laws.proofs.Prelude.{◌≡◌, ℕ, List, [], ◌∷◌, ◌++◌, refl, arith, slice_index_or, Some, concat_parts, Dim, Version, netcdf_word, IsName, Section, Globals, Dimensions, Variables, Values, scan, pieces_after, Close, shape, SaysStatement, opening_line, opening_piece, brace_piece, AttributeReadsBack, cut_lexemes, lexemes, lexemes_at, pieces_of, Each, all_of, each_map, each_of}
+use Rattle.cdl_laws.proofs.Readings.{dim_says, Speaks, global_says, owned_says, pieces_are, declared}
 use Rattle.cdl_laws.proofs.Ends.{dimensions_says, variables_says, data_says, opening_lexemes, comment_back}
-use Rattle.cdl_laws.proofs.Lines.{pieces_are}
 use Rattle.cdl_laws.proofs.Sayables.{atts_speak}
-use Rattle.cdl_laws.proofs.Wholes.{declared}
 use Rattle.cdl_laws.proofs.RowsRead.{rows_read_back}
 use Rattle.cdl_laws.proofs.laws.piece_reads_back.Goals as goal
 

@@ -1,12 +1,7 @@
 -- Names, strings and numbers are read back, each as one token.
-use Rattle.std.proofs.Common.{◌≡◌, ℕ, ◌+◌, true, false, List, [], ◌∷◌, ◌++◌, length, get_or, sym, ◌∙◌, ap, refl, subst, arith, ◌||◌, ◌==◌, codes, ◌≤◌}
-use Rattle.cdl_laws.proofs.Prelude.{false≢true, eqb-true, take-append-drop, get_or-drop, take-append_seam, is_reserved, is_blank, word_len, begins_opening, and_right, word_at_start, or_second, prefix_len, escaped_name, escaped_text, goes_on_number, scan, stands_for, NamesReadBack, StopsNumber, and_left, number_suffix}
-use Rattle.cdl_laws.proofs.Texts.{is_stop, stop_word, name_word, some_name}
+use Rattle.cdl_laws.proofs.Prelude.{◌≡◌, ℕ, ◌+◌, true, false, List, [], ◌∷◌, ◌++◌, length, get_or, sym, ◌∙◌, ap, refl, subst, arith, ◌||◌, ◌==◌, codes, ◌≤◌, false≢true, eqb-true, take-append-drop, get_or-drop, take-append_seam, is_reserved, is_blank, word_len, begins_opening, and_right, word_at_start, or_second, prefix_len, escaped_name, escaped_text, goes_on_number, scan, stands_for, NamesReadBack, StopsNumber, and_left, number_suffix}
+use Rattle.cdl_laws.proofs.Readings.{is_stop, stop_word, name_word, some_name, opens_none, begins, name_len, name_value, numeral_again, value_again, number_is, value_is, on_suffix, unescape_all, between_quotes, string_token}
 use Rattle.cdl_laws.proofs.Attributes.{small_is}
-use Rattle.cdl_laws.proofs.Heads.{opens_none}
-use Rattle.cdl_laws.proofs.NameTexts.{begins, name_len, name_value}
-use Rattle.cdl_laws.proofs.Numerals.{numeral_again, value_again, number_is, value_is, on_suffix}
-use Rattle.cdl_laws.proofs.Strings.{unescape_all, between_quotes, string_token}
 use Rattle.cdl_laws.proofs.laws.token_reads_back.Goals as goal
 
 -- what stands after the word of an opening

@@ -1,5 +1,4 @@
-use Rattle.std.proofs.Common.{rules, ◌≡◌, ◌∷◌, ◌++◌, [], List, ℕ, ap, sym, subst, ◌∙◌, Ok, Result}
-use Rattle.cdl_parse.proofs.Prelude.{values, version_of, words, lexeme_of, CdlKind, DuplicateName, add_constant, in_turn, when, Leaves, has_attribute, duplicate_name_or, ◌>>=◌}
+use Rattle.cdl_parse.proofs.Prelude.{rules, ◌≡◌, ◌∷◌, ◌++◌, [], List, ℕ, ap, sym, subst, ◌∙◌, Ok, Result, values, version_of, words, lexeme_of, CdlKind, DuplicateName, add_constant, in_turn, when, Leaves, has_attribute, duplicate_name_or, ◌>>=◌}
 use Rattle.cdl_parse.proofs.AttributeReads.{fails_then, goes_equals, goes_name, name_fails, read_as, refused, with_values}
 use Rattle.cdl_parse.proofs.StatementWords.{begins}
 use Rattle.cdl_parse.proofs.TakenNames.{fails_after}

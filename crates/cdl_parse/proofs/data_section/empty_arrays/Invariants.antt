@@ -1,4 +1,4 @@
-use Rattle.std.proofs.Common.{◌≡◌, [], replicate}
+use Rattle.cdl_parse.proofs.Prelude.{◌≡◌, [], replicate}
 use Rattle.cdl_parse.proofs.data_section.empty_arrays.Given as goal
 
 abbrev pub invariant-loop : goal.invariant-loop

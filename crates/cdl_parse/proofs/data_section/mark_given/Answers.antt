@@ -1,4 +1,4 @@
-use Rattle.std.proofs.Common.{rules, ◌<◌, ◌≤◌, length}
+use Rattle.cdl_parse.proofs.Prelude.{rules, ◌<◌, ◌≤◌, length}
 use Rattle.cdl_parse.proofs.DataStates.{given_is, none_given}
 use Rattle.cdl_parse.proofs.data_section.mark_given.Goals as goal
 

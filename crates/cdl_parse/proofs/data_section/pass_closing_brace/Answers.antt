@@ -1,5 +1,4 @@
-use Rattle.std.proofs.Common.{refl}
-use Rattle.cdl_statements.specs.code.Cutters.{version_of, words}
+use Rattle.cdl_parse.proofs.Prelude.{refl, version_of, words}
 use Rattle.cdl_parse.proofs.DataStatements.{closing}
 use Rattle.cdl_parse.proofs.data_section.pass_closing_brace.Goals as goal
 

@@ -1,5 +1,4 @@
-use Rattle.std.proofs.Common.{rules, ◌≡◌, ◌<◌, ℕ, false, List, [], length, refl, sym, ap, ◌∙◌, subst, replicate, ◌^◌}
-use Rattle.cdl_parse.proofs.Prelude.{closing_of, is_done, pieces_left, text_of, version_of, Section, run, IsInDataSection, TakesStatement, FailsAt, at_line, ParseError}
+use Rattle.cdl_parse.proofs.Prelude.{rules, ◌≡◌, ◌<◌, ℕ, false, List, [], length, refl, sym, ap, ◌∙◌, subst, replicate, ◌^◌, closing_of, is_done, pieces_left, text_of, version_of, Section, run, IsInDataSection, TakesStatement, FailsAt, at_line, ParseError}
 use Rattle.cdl_parse.proofs.DataRuns.{none_so_far, values_on}
 use Rattle.cdl_parse.proofs.Closings.{closing_on}
 use Rattle.cdl_parse.proofs.RunSteps.{fewer, goes_on, stops}

@@ -1,5 +1,4 @@
-use Rattle.std.proofs.Common.{◌≡◌, List, length}
-use Rattle.cdl_parse.proofs.Prelude.{Var, closing_of, pieces_left, text_of, version_of, State, BeginsData}
+use Rattle.cdl_parse.proofs.Prelude.{◌≡◌, List, length, Var, closing_of, pieces_left, text_of, version_of, State, BeginsData}
 use Rattle.cdl_parse.proofs.DataRuns.{SoFar}
 use Rattle.cdl_parse.proofs.data_section.read_data.Given as goal
 

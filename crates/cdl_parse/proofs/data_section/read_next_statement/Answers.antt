@@ -1,5 +1,4 @@
-use Rattle.std.proofs.Common.{◌≡◌, ℕ, List, false, sym, ap, ◌∙◌, subst}
-use Rattle.cdl_parse.proofs.Prelude.{version_of, words, AllSuit, begins_brace, names_of, Target, IsInDataSection, given_at}
+use Rattle.cdl_parse.proofs.Prelude.{◌≡◌, ℕ, List, false, sym, ap, ◌∙◌, subst, version_of, words, AllSuit, begins_brace, names_of, Target, IsInDataSection, given_at}
 use Rattle.cdl_parse.proofs.DataStatements.{closed, takes}
 use Rattle.cdl_parse.proofs.data_section.read_next_statement.Goals as goal
 

@@ -1,4 +1,4 @@
-use Rattle.cdl_statements.specs.code.Views.{lexeme_of}
+use Rattle.cdl_parse.proofs.Prelude.{lexeme_of}
 use Rattle.cdl_parse.proofs.DeclarationReads.{after_mark}
 use Rattle.cdl_parse.proofs.declaration.after_mark.Goals as goal
 

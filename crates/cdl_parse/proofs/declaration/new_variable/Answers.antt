@@ -1,5 +1,4 @@
-use Rattle.std.proofs.Common.{rules}
-use Rattle.cdl_parse.proofs.Prelude.{lexeme_of, read_on, PartialVariable, stopped}
+use Rattle.cdl_parse.proofs.Prelude.{rules, lexeme_of, read_on, PartialVariable, stopped}
 use Rattle.cdl_parse.proofs.DeclarationReads.{begin_fails, begins}
 use Rattle.cdl_parse.proofs.declaration.new_variable.Goals as goal
 

@@ -1,5 +1,4 @@
-use Rattle.std.proofs.Common.{◌≡◌, refl, ap, sym, subst, ◌∙◌, Ok}
-use Rattle.cdl_parse.proofs.Prelude.{next_token, text_of, version_of, words, completes, lexeme, lexeme_of, VariableName, type_of, Leaves}
+use Rattle.cdl_parse.proofs.Prelude.{◌≡◌, refl, ap, sym, subst, ◌∙◌, Ok, next_token, text_of, version_of, words, completes, lexeme, lexeme_of, VariableName, type_of, Leaves}
 use Rattle.cdl_parse.proofs.DeclarationReads.{goes_on, typed}
 use Rattle.cdl_parse.proofs.declaration.read_declaration.Goals as goal
 

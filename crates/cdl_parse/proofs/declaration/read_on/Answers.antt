@@ -1,5 +1,4 @@
-use Rattle.std.proofs.Common.{rules, sym, subst}
-use Rattle.cdl_parse.proofs.Prelude.{lexeme_of, ContinuesRead, read_on, PartialVariable, stopped}
+use Rattle.cdl_parse.proofs.Prelude.{rules, sym, subst, lexeme_of, ContinuesRead, read_on, PartialVariable, stopped}
 use Rattle.cdl_values.proofs.PackedTokens.{no_mark}
 use Rattle.cdl_parse.proofs.DeclarationReads.{dimension_on, next_fails, next_variable}
 use Rattle.cdl_parse.proofs.declaration.read_on.Goals as goal

@@ -1,5 +1,4 @@
-use Rattle.std.proofs.Common.{ap, sym, subst, ◌∙◌}
-use Rattle.cdl_parse.proofs.Prelude.{next_token, text_of, words, lexeme, lexeme_of, Leaves, added}
+use Rattle.cdl_parse.proofs.Prelude.{ap, sym, subst, ◌∙◌, next_token, text_of, words, lexeme, lexeme_of, Leaves, added}
 use Rattle.cdl_statements.proofs.ShapeChecks.{first_word, going}
 use Rattle.cdl_parse.proofs.DeclarationReads.{all_read, begins_name, goes_name}
 use Rattle.cdl_parse.proofs.declaration.read_variables.Goals as goal

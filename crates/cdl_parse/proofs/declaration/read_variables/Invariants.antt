@@ -1,5 +1,4 @@
-use Rattle.std.proofs.Common.{◌≡◌, ◌-◌, length, false}
-use Rattle.cdl_parse.proofs.Prelude.{is_done, offset_of, text_of, words, added, read_on}
+use Rattle.cdl_parse.proofs.Prelude.{◌≡◌, ◌-◌, length, false, is_done, offset_of, text_of, words, added, read_on}
 use Rattle.cdl_parse.proofs.declaration.read_variables.Given as goal
 
 abbrev pub invariant-tokens : goal.invariant-tokens

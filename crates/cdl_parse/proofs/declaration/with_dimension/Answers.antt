@@ -1,5 +1,4 @@
-use Rattle.std.proofs.Common.{rules, ◌≡◌, ◌++◌, ◌∷◌, [], true, ap, sym, subst, ◌∙◌}
-use Rattle.cdl_parse.proofs.Prelude.{word_value, with_name, FailsRead, continued, next_dimid, is_variable_name, duplicate_name_or}
+use Rattle.cdl_parse.proofs.Prelude.{rules, ◌≡◌, ◌++◌, ◌∷◌, [], true, ap, sym, subst, ◌∙◌, word_value, with_name, FailsRead, continued, next_dimid, is_variable_name, duplicate_name_or}
 use Rattle.cdl_parse.proofs.DeclarationReads.{dimension_fails, dimension_ok}
 use Rattle.cdl_parse.proofs.declaration.with_dimension.Goals as goal
 

@@ -1,4 +1,4 @@
-use Rattle.std.proofs.Common.{rules, ◌≡◌, ◌++◌}
+use Rattle.cdl_parse.proofs.Prelude.{rules, ◌≡◌, ◌++◌}
 use Rattle.cdl_parse.proofs.Copies.{copy_added}
 use Rattle.cdl_parse.proofs.declared_values.add_copies.Goals as goal
 

@@ -1,5 +1,4 @@
-use Rattle.std.proofs.Common.{◌≡◌, ◌++◌, replicate}
-use Rattle.std.specs.List.{concat}
+use Rattle.cdl_parse.proofs.Prelude.{◌≡◌, ◌++◌, replicate, concat}
 use Rattle.cdl_parse.proofs.declared_values.add_copies.Given as goal
 
 abbrev pub invariant-loop : goal.invariant-loop

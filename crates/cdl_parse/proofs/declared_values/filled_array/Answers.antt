@@ -1,5 +1,4 @@
-use Rattle.std.proofs.Common.{rules, ◌≡◌, ◌++◌, ◌∙◌, ap, replicate, List, ℕ}
-use Rattle.cdl_parse.proofs.Prelude.{concat, fill_value, bytes_of_number}
+use Rattle.cdl_parse.proofs.Prelude.{rules, ◌≡◌, ◌++◌, ◌∙◌, ap, replicate, List, ℕ, concat, fill_value, bytes_of_number}
 use Rattle.cdl_parse.proofs.Copies.{copies_of}
 use Rattle.cdl_parse.proofs.declared_values.filled_array.Goals as goal
 

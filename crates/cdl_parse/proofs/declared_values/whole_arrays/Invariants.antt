@@ -1,5 +1,4 @@
-use Rattle.std.proofs.Common.{◌≡◌, ◌++◌, drop}
-use Rattle.cdl_parse.proofs.Prelude.{into_iter_items, whole_arrays}
+use Rattle.cdl_parse.proofs.Prelude.{◌≡◌, ◌++◌, drop, into_iter_items, whole_arrays}
 use Rattle.cdl_parse.proofs.declared_values.whole_arrays.Given as goal
 
 abbrev pub invariant-loop-var : goal.invariant-loop-var

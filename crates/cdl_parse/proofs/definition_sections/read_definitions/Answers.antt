@@ -1,5 +1,4 @@
-use Rattle.std.proofs.Common.{◌≡◌, false, ap, sym, ◌∙◌, subst}
-use Rattle.cdl_parse.proofs.Prelude.{is_done, pieces_left, text_of, version_of, words, closing_of, empty, run, AreFit, OkIs, piece_fit, state_of, FailsAt, at_line}
+use Rattle.cdl_parse.proofs.Prelude.{◌≡◌, false, ap, sym, ◌∙◌, subst, is_done, pieces_left, text_of, version_of, words, closing_of, empty, run, AreFit, OkIs, piece_fit, state_of, FailsAt, at_line}
 use Rattle.cdl_parse.proofs.Closings.{closing_on}
 use Rattle.cdl_parse.proofs.RunSteps.{fewer, goes_on, stops}
 use Rattle.cdl_parse.proofs.definition_sections.read_definitions.Goals as goal

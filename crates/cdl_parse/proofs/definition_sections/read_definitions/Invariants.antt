@@ -1,5 +1,4 @@
-use Rattle.std.proofs.Common.{◌≡◌, length}
-use Rattle.cdl_parse.proofs.Prelude.{pieces_left, text_of, version_of, closing_line, closing_of, empty, run, AreFit, state_of}
+use Rattle.cdl_parse.proofs.Prelude.{◌≡◌, length, pieces_left, text_of, version_of, closing_line, closing_of, empty, run, AreFit, state_of}
 use Rattle.cdl_parse.proofs.definition_sections.read_definitions.Given as goal
 
 abbrev pub invariant-statements : goal.invariant-statements

@@ -1,5 +1,4 @@
-use Rattle.std.proofs.Common.{rules, ◌≡◌, ap, sym, subst, ◌∙◌, Result, List, ℕ, Ok, Err}
-use Rattle.cdl_parse.proofs.Prelude.{is_name, Dim, dimension_said, lexeme_of, CdlKind, BadName, DuplicateName, add_dim, dim_len_of, unless, when, FailsRead, Fault, is_dimension_name, with_new_dim, duplicate_name_or, ◌>>=◌}
+use Rattle.cdl_parse.proofs.Prelude.{rules, ◌≡◌, ap, sym, subst, ◌∙◌, Result, List, ℕ, Ok, Err, is_name, Dim, dimension_said, lexeme_of, CdlKind, BadName, DuplicateName, add_dim, dim_len_of, unless, when, FailsRead, Fault, is_dimension_name, with_new_dim, duplicate_name_or, ◌>>=◌}
 use Rattle.cdl_parse.proofs.AttributeReads.{fails_then, refused}
 use Rattle.cdl_parse.proofs.DimensionReads.{leaves_as, name_first, with_len}
 use Rattle.cdl_parse.proofs.TakenNames.{fails_after, named}

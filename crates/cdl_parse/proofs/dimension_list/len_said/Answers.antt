@@ -1,5 +1,4 @@
-use Rattle.std.proofs.Common.{◌≡◌, ap, sym, ◌∙◌, refl, true, false, None, Some, if◌then◌else◌}
-use Rattle.cdl_parse.proofs.Prelude.{is_unlimited, parts_or_zero, number, parts, lexeme_of, dim_len_of}
+use Rattle.cdl_parse.proofs.Prelude.{◌≡◌, ap, sym, ◌∙◌, refl, true, false, None, Some, if◌then◌else◌, is_unlimited, parts_or_zero, number, parts, lexeme_of, dim_len_of}
 use Rattle.cdl_parse.proofs.dimension_list.len_said.Goals as goal
 
 pub returns-then-is_unlimited : goal.returns-then-is_unlimited

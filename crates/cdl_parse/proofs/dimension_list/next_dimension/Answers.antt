@@ -1,5 +1,4 @@
-use Rattle.std.proofs.Common.{rules, arith, ◌∷◌, [], ap₂, sym, ◌∙◌, if◌then◌else◌}
-use Rattle.cdl_parse.proofs.Prelude.{dimension_said, dimensions_said, first_goes, version_of, words, Lexeme, said_on, shaped_on}
+use Rattle.cdl_parse.proofs.Prelude.{rules, arith, ◌∷◌, [], ap₂, sym, ◌∙◌, if◌then◌else◌, dimension_said, dimensions_said, first_goes, version_of, words, Lexeme, said_on, shaped_on}
 use Rattle.cdl_parse.proofs.DimensionReads.{equals_goes, length_goes, four_on}
 use Rattle.cdl_parse.proofs.StatementWords.{begins}
 use Rattle.cdl_parse.proofs.dimension_list.next_dimension.Goals as goal

@@ -1,5 +1,4 @@
-use Rattle.std.proofs.Common.{◌≡◌, ◌-◌, length, true, false}
-use Rattle.cdl_parse.proofs.Prelude.{dimensions_said, words, is_done, offset_of, text_of, version_of, completes, DimensionName, add_dim, in_turn}
+use Rattle.cdl_parse.proofs.Prelude.{◌≡◌, ◌-◌, length, true, false, dimensions_said, words, is_done, offset_of, text_of, version_of, completes, DimensionName, add_dim, in_turn}
 use Rattle.cdl_parse.proofs.dimension_list.read_dimensions.Given as goal
 
 abbrev pub invariant-dimensions : goal.invariant-dimensions

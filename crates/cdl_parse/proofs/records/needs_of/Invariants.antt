@@ -1,5 +1,4 @@
-use Rattle.std.proofs.Common.{◌≡◌, ◌<◌, All, Some, drop}
-use Rattle.cdl_parse.proofs.Prelude.{Var, slab_count, with_all}
+use Rattle.cdl_parse.proofs.Prelude.{◌≡◌, ◌<◌, All, Some, drop, Var, slab_count, with_all}
 use Rattle.cdl_parse.proofs.records.needs_of.Given as goal
 
 abbrev pub invariant-loop-at : goal.invariant-loop-at

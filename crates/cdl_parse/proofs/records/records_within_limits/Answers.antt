@@ -1,4 +1,4 @@
-use Rattle.std.proofs.Common.{rules, ◌≡◌, Some, None, ◌∙◌, sym}
+use Rattle.cdl_parse.proofs.Prelude.{rules, ◌≡◌, Some, None, ◌∙◌, sym}
 use Rattle.cdl_parse.proofs.SizeLimits.{each_some, none_kept, some_kept}
 use Rattle.cdl_parse.proofs.records.records_within_limits.Goals as goal
 

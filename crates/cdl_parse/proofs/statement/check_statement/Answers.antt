@@ -1,5 +1,4 @@
-use Rattle.std.proofs.Common.{ap, sym, ◌∙◌, Some, is_some}
-use Rattle.cdl_parse.proofs.Prelude.{statement_said, version_of, words, shape}
+use Rattle.cdl_parse.proofs.Prelude.{ap, sym, ◌∙◌, Some, is_some, statement_said, version_of, words, shape}
 use Rattle.cdl_parse.proofs.Defining.{reads_bad, reads_shapeless, reads_statement}
 use Rattle.cdl_parse.proofs.statement.check_statement.Goals as goal
 

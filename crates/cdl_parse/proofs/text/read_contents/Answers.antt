@@ -1,5 +1,4 @@
-use Rattle.std.proofs.Common.{rules, ◌≡◌, ◌<◌, length, refl, ap, sym, ◌∙◌, subst, ◌^◌, Result, Err}
-use Rattle.cdl_parse.proofs.Prelude.{FailsAt, pieces_left, text_of, version_of, empty, run, State, AllList, AreShaped, unlisted_drafts, state_of, ParseError}
+use Rattle.cdl_parse.proofs.Prelude.{rules, ◌≡◌, ◌<◌, length, refl, ap, sym, ◌∙◌, subst, ◌^◌, Result, Err, FailsAt, pieces_left, text_of, version_of, empty, run, State, AllList, AreShaped, unlisted_drafts, state_of, ParseError}
 use Rattle.cdl_parse.specs.code.Parsing.{ReadsAll}
 use Rattle.cdl_parse.specs.declared.{parse_error.ParseError.TheVariants.Fault, text.Contents.Contents}
 use Rattle.cdl_parse.proofs.WholeTexts.{listed_shapes, names_known, same_end, same_fault, same_run}

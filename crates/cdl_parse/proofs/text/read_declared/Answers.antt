@@ -1,5 +1,4 @@
-use Rattle.std.proofs.Common.{rules, ◌≡◌, ◌∙◌, ◌<◌, ap, length, sym, subst, ◌^◌, Result, Ok, Err}
-use Rattle.cdl_parse.proofs.Prelude.{pieces_left, text_of, version_of, statements, closing_line, empty, meaning, run, dataset_of_declared, FailsAt, GivesOrOutOfMemory, Declared, ParseError}
+use Rattle.cdl_parse.proofs.Prelude.{rules, ◌≡◌, ◌∙◌, ◌<◌, ap, length, sym, subst, ◌^◌, Result, Ok, Err, pieces_left, text_of, version_of, statements, closing_line, empty, meaning, run, dataset_of_declared, FailsAt, GivesOrOutOfMemory, Declared, ParseError}
 use Rattle.cdl_parse.proofs.SizeLimits.{one-each}
 use Rattle.cdl_parse.proofs.WholeTexts.{run_fails, same_fault}
 use Rattle.cdl_parse.proofs.text.read_declared.Goals as goal

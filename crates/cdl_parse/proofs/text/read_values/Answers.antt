@@ -1,5 +1,4 @@
-use Rattle.std.proofs.Common.{◌≡◌, [], length, refl, ap, sym, ◌∙◌, subst, replicate}
-use Rattle.cdl_parse.proofs.Prelude.{pieces_left, text_of, version_of, run, AllList, unlisted_drafts}
+use Rattle.cdl_parse.proofs.Prelude.{◌≡◌, [], length, refl, ap, sym, ◌∙◌, subst, replicate, pieces_left, text_of, version_of, run, AllList, unlisted_drafts}
 use Rattle.cdl_parse.proofs.WholeTexts.{none_listed, past_values}
 use Rattle.cdl_parse.proofs.text.read_values.Goals as goal
 

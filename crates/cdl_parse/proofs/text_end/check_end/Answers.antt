@@ -1,5 +1,4 @@
-use Rattle.std.proofs.Common.{◌≡◌, false, refl, ap, sym, ◌∙◌}
-use Rattle.cdl_parse.proofs.Prelude.{closing_of, is_done, next_token, pieces_left, text_of, version_of, words, lexeme, Ended, run}
+use Rattle.cdl_parse.proofs.Prelude.{◌≡◌, false, refl, ap, sym, ◌∙◌, closing_of, is_done, next_token, pieces_left, text_of, version_of, words, lexeme, Ended, run}
 use Rattle.cdl_parse.proofs.Closings.{closing_end, closing_on}
 use Rattle.cdl_parse.proofs.Defining.{ends}
 use Rattle.cdl_parse.proofs.RunSteps.{fault_stops, fewer, goes_on}

@@ -1,5 +1,4 @@
-use Rattle.std.proofs.Common.{◌≡◌, length, true, false}
-use Rattle.cdl_parse.proofs.Prelude.{closing_of, is_done, pieces_left, text_of, version_of, run, State, is_over}
+use Rattle.cdl_parse.proofs.Prelude.{◌≡◌, length, true, false, closing_of, is_done, pieces_left, text_of, version_of, run, State, is_over}
 use Rattle.cdl_parse.proofs.text_end.check_end.Given as goal
 
 abbrev pub invariant-statements : goal.invariant-statements

@@ -1,5 +1,4 @@
-use Rattle.std.proofs.Common.{◌≡◌, ◌++◌, map}
-use Rattle.cdl_parse.proofs.Prelude.{into_iter_items, var_of}
+use Rattle.cdl_parse.proofs.Prelude.{◌≡◌, ◌++◌, map, into_iter_items, var_of}
 use Rattle.cdl_parse.proofs.variables.vars_of.Given as goal
 
 -- those so far, and those that are left

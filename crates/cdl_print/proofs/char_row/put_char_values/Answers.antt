@@ -1,6 +1,6 @@
-use Rattle.std.proofs.Common.{◌≡◌, [], rules, arith}
-use Rattle.cdl_print.proofs.Prelude.{err_from_is_err_and, numbers}
-use Rattle.cdl_print.proofs.CharRows.{chars_parts, chars_count, no_chars}
+use Rattle.cdl_print.proofs.Prelude.{◌≡◌, [], rules, arith, err_from_is_err_and, numbers}
+use Rattle.cdl_print.proofs.CharRows.{chars_parts, chars_count}
+use Rattle.cdl_print.proofs.Joined.{no_numbers}
 use Rattle.cdl_print.proofs.PrintingLaws.{underway_at_first, underway_next, underway_failed, underway_after, underway_appended, underway_within}
 use Rattle.cdl_print.proofs.char_row.put_char_values.Goals as goal
 
@@ -23,10 +23,10 @@ returns-in_err-put_next_part-clause-wrote g c =
 
 pub returns-clause-after : goal.returns-clause-after
 returns-clause-after g c =
-    let none : numbers c.args.layout.now.ty c.loop-rest.rest.now ≡ [] = no_chars _ _ c.requires.character (search rules) in
+    let none : numbers c.args.layout.now.ty c.loop-rest.rest.now ≡ [] = no_numbers _ _ (search rules) in
     underway_after _ _ _ _ _ _ (rw none at c.loop-rest.invariant)
 
 pub returns-clause-wrote : goal.returns-clause-wrote
 returns-clause-wrote g c =
-    let none : numbers c.args.layout.now.ty c.loop-rest.rest.now ≡ [] = no_chars _ _ c.requires.character (search rules) in
+    let none : numbers c.args.layout.now.ty c.loop-rest.rest.now ≡ [] = no_numbers _ _ (search rules) in
     underway_appended _ _ _ _ _ _ (rw none at c.loop-rest.invariant)

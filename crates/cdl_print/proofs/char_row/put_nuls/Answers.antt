@@ -1,5 +1,4 @@
-use Rattle.cdl_print.proofs.Prelude.{err_from_is_err_and, escaped_text}
-use Rattle.std.proofs.Common.{arith, ◌≡◌, ◌-◌, replicate, [], ap, ◌∙◌}
+use Rattle.cdl_print.proofs.Prelude.{arith, ◌≡◌, ◌-◌, replicate, [], ap, ◌∙◌, err_from_is_err_and, escaped_text}
 use Rattle.cdl_print.proofs.Begun.{begun_next, begun_partway, begun_all}
 use Rattle.cdl_print.proofs.CharRows.{nuls_first, nuls_parts, nuls_none}
 use Rattle.cdl_print.proofs.char_row.put_nuls.Goals as goal

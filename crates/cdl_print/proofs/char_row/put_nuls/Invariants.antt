@@ -1,5 +1,4 @@
-use Rattle.std.proofs.Common.{◌-◌, replicate}
-use Rattle.nc_base.specs.Escapes.{escaped_text}
+use Rattle.cdl_print.proofs.Prelude.{◌-◌, replicate, escaped_text}
 use Rattle.cdl_print.proofs.Begun.{IsBegun}
 use Rattle.cdl_print.proofs.char_row.put_nuls.Given as goal
 

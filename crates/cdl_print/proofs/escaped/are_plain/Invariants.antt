@@ -1,5 +1,4 @@
-use Rattle.std.proofs.Common.{◌≡◌, take}
-use Rattle.cdl_print.proofs.Prelude.{list_all, stands_for_itself}
+use Rattle.cdl_print.proofs.Prelude.{◌≡◌, take, list_all, stands_for_itself}
 use Rattle.cdl_print.proofs.escaped.are_plain.Given as goal
 
 abbrev pub invariant-loop-b : goal.invariant-loop-b

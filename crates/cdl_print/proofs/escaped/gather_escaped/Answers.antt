@@ -1,5 +1,4 @@
-use Rattle.std.proofs.Common.{◌∙◌, ◌+◌, ◌++◌, ap, arith, take}
-use Rattle.cdl_print.proofs.Prelude.{escaped_in, stands_for_itself}
+use Rattle.cdl_print.proofs.Prelude.{◌∙◌, ◌+◌, ◌++◌, ap, arith, take, escaped_in, stands_for_itself}
 use Rattle.cdl_print.proofs.Runs.{escape_put, plain_itself, run_put}
 use Rattle.cdl_print.proofs.escaped.gather_escaped.Goals as goal
 

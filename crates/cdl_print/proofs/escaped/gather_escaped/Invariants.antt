@@ -1,5 +1,4 @@
-use Rattle.std.proofs.Common.{◌≡◌, ◌+◌, ◌*◌, ◌≤◌, ◌++◌, length, take}
-use Rattle.cdl_print.proofs.Prelude.{flat_map, escaped_in}
+use Rattle.cdl_print.proofs.Prelude.{◌≡◌, ◌+◌, ◌*◌, ◌≤◌, ◌++◌, length, take, flat_map, escaped_in}
 use Rattle.cdl_print.proofs.escaped.gather_escaped.Given as goal
 
 abbrev pub invariant-loop-rest : goal.invariant-loop-rest

@@ -1,5 +1,4 @@
-use Rattle.std.proofs.Common.{rules, sym, ◌∙◌}
-use Rattle.cdl_print.proofs.Prelude.{stands_for_itself}
+use Rattle.cdl_print.proofs.Prelude.{rules, sym, ◌∙◌, stands_for_itself}
 use Rattle.cdl_print.proofs.Runs.{plain_more}
 use Rattle.cdl_print.proofs.escaped.plain_len.Goals as goal
 

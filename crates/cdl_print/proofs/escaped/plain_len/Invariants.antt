@@ -1,5 +1,4 @@
-use Rattle.std.proofs.Common.{◌≡◌, ◌≤◌, ◌-◌, true, length, take}
-use Rattle.cdl_print.proofs.Prelude.{list_all, stands_for_itself}
+use Rattle.cdl_print.proofs.Prelude.{◌≡◌, ◌≤◌, ◌-◌, true, length, take, list_all, stands_for_itself}
 use Rattle.cdl_print.proofs.escaped.plain_len.Given as goal
 
 abbrev pub invariant-loop-len : goal.invariant-loop-len

@@ -1,5 +1,4 @@
-use Rattle.std.proofs.Common.{ℕ, List, ◌++◌, ap, ◌∙◌}
-use Rattle.cdl_print.proofs.Prelude.{err_from_is_err_and, escaped_in, stands_for_itself, flat_map}
+use Rattle.cdl_print.proofs.Prelude.{ℕ, List, ◌++◌, ap, ◌∙◌, err_from_is_err_and, escaped_in, stands_for_itself, flat_map}
 use Rattle.cdl_print.proofs.Begun.{begun_at_first, begun_next, begun_partway}
 use Rattle.cdl_print.proofs.Runs.{flat_map_itself, flat_map_parts, plain_itself}
 use Rattle.cdl_print.proofs.escaped.put_escaped.Goals as goal

@@ -1,5 +1,4 @@
-use Rattle.std.proofs.Common.{length}
-use Rattle.cdl_print.proofs.Prelude.{flat_map, escaped_in}
+use Rattle.cdl_print.proofs.Prelude.{length, flat_map, escaped_in}
 use Rattle.cdl_print.proofs.Begun.{IsBegun}
 use Rattle.cdl_print.proofs.escaped.put_escaped.Given as goal
 

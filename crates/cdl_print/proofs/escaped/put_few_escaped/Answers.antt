@@ -1,4 +1,4 @@
-use Rattle.std.proofs.Common.{◌≡◌, ◌∙◌, ◌==◌, ℕ, List, true, sym, [], ◌∷◌, refl, length, arith}
+use Rattle.cdl_print.proofs.Prelude.{◌≡◌, ◌∙◌, ◌==◌, ℕ, List, true, sym, [], ◌∷◌, refl, length, arith}
 use Rattle.cdl_print.proofs.Begun.{appended_none}
 use Rattle.cdl_print.proofs.escaped.put_few_escaped.Goals as goal
 

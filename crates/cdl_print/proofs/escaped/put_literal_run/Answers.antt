@@ -1,8 +1,4 @@
-use Rattle.std.proofs.Common.{◌+◌, ◌++◌, List, ℕ, arith, sym, ap, ◌∙◌, take, drop, length, ◌-◌, append_assoc}
-use Rattle.std.proofs.Math.Seq.{take-add}
-use Rattle.std.proofs.lemmas.Simd.{length-put_chunk, take_more_put_chunk}
-use Rattle.devices.proofs.Writes.{take_all_of}
-use Rattle.cdl_print.proofs.Prelude.{is_literal, length-drop, length-take-le, list_all, take_all}
+use Rattle.cdl_print.proofs.Prelude.{◌+◌, ◌++◌, List, ℕ, arith, sym, ap, ◌∙◌, take, drop, length, ◌-◌, append_assoc, is_literal, length-drop, length-take-le, list_all, take_all, length-put_chunk, take_more_put_chunk, take-add, take_all_of}
 use Rattle.cdl_print.proofs.Lanes.{copied_part, more_pass, read_again, run_at}
 use lib.Lanes.{put_chunk}
 use Rattle.cdl_print.proofs.escaped.put_literal_run.Goals as goal

@@ -1,6 +1,4 @@
-use Rattle.std.proofs.Common.{refl, arith}
-use Rattle.std.proofs.lemmas.Simd.{zip2_splat, zip2_of_maps}
-use Rattle.cdl_print.specs.code.Pieces.{needs_escape}
+use Rattle.cdl_print.proofs.Prelude.{refl, arith, zip2_splat, zip2_of_maps, needs_escape}
 use Rattle.cdl_print.specs.declared.literal.TheConstants.{ESCAPED}
 use Rattle.cdl_print.proofs.Lanes.{masked, hit, low_ok, looked_up, itself}
 use Rattle.cdl_print.proofs.literal.escape_mask.Goals as goal

@@ -1,8 +1,5 @@
-use Rattle.std.proofs.Common.{◌≡◌, ◌+◌, ◌≤◌, ℕ, true, length, map, take, drop, sym, ◌∙◌, arith}
-use Rattle.std.proofs.lemmas.Simd.{leading_from_mask_l, length-chunk}
-use Rattle.cdl_print.specs.code.Pieces.{needs_escape}
+use Rattle.cdl_print.proofs.Prelude.{◌≡◌, ◌+◌, ◌≤◌, ℕ, true, length, map, take, drop, sym, ◌∙◌, arith, is_literal, list_all, nat_tests, leading_from_mask_l, length-chunk, needs_escape}
 use Rattle.cdl_print.proofs.Lanes.{block_passes, run_at}
-use Rattle.cdl_print.proofs.Prelude.{is_literal, list_all, nat_tests}
 use lib.Lanes.{chunk, mask_l}
 use Rattle.cdl_print.proofs.literal.is_literal_block.Goals as goal
 

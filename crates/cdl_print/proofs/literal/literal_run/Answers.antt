@@ -1,7 +1,4 @@
-use Rattle.std.proofs.Common.{◌∙◌, ap, arith}
-use Rattle.std.proofs.lemmas.Simd.{leading_from_mask_l, trailing_mask_l}
-use Rattle.cdl_print.specs.code.Pieces.{needs_escape}
-use Rattle.cdl_print.proofs.Prelude.{is_literal, prefix_len-le-length}
+use Rattle.cdl_print.proofs.Prelude.{◌∙◌, ap, arith, is_literal, prefix_len-le-length, leading_from_mask_l, trailing_mask_l, needs_escape}
 use lib.Count.{count_trailing_zeros}
 use Rattle.cdl_print.proofs.literal.literal_run.Goals as goal
 

@@ -1,6 +1,4 @@
-use Rattle.std.proofs.Common.{arith, refl, ap, sym, ◌∙◌, ◌++◌, List, ℕ, take, append_assoc}
-use Rattle.nc_base.specs.HeadText.{numbers_text}
-use Rattle.cdl_print.proofs.Prelude.{some_size}
+use Rattle.cdl_print.proofs.Prelude.{arith, refl, ap, sym, ◌∙◌, ◌++◌, List, ℕ, take, append_assoc, some_size, numbers_text}
 use Rattle.cdl_print.proofs.Joined.{number_values-parts}
 use Rattle.cdl_print.proofs.number.gather_numbers.Goals as goal
 

@@ -1,5 +1,4 @@
-use Rattle.std.proofs.Common.{◌≡◌, ◌++◌, ◌<◌, ◌≤◌, length, take}
-use Rattle.nc_base.specs.HeadText.{numbers_text}
+use Rattle.cdl_print.proofs.Prelude.{◌≡◌, ◌++◌, ◌<◌, ◌≤◌, length, take, numbers_text}
 use Rattle.cdl_print.proofs.number.gather_numbers.Given as goal
 
 abbrev pub invariant-loop-rest : goal.invariant-loop-rest

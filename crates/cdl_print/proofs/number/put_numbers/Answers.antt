@@ -1,5 +1,4 @@
-use Rattle.std.proofs.Common.{arith}
-use Rattle.std.proofs.lemmas.Result.{err_from_is_err_and}
+use Rattle.cdl_print.proofs.Prelude.{arith, err_from_is_err_and}
 use Rattle.cdl_print.proofs.Begun.{begun_at_first, begun_next, begun_partway, begun_all}
 use Rattle.cdl_print.proofs.Joined.{number_values-none}
 use Rattle.cdl_print.proofs.number.put_numbers.Goals as goal

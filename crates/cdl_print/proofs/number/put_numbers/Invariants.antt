@@ -1,5 +1,4 @@
-use Rattle.std.proofs.Common.{length}
-use Rattle.nc_base.specs.HeadText.{numbers_text}
+use Rattle.cdl_print.proofs.Prelude.{length, numbers_text}
 use Rattle.cdl_print.proofs.Begun.{IsBegun}
 use Rattle.cdl_print.proofs.number.put_numbers.Given as goal
 

@@ -1,5 +1,4 @@
-use Rattle.std.proofs.Common.{◌∙◌, sym, to_z-of_z}
-use Rattle.cdl_print.proofs.Prelude.{w128, append-nil}
+use Rattle.cdl_print.proofs.Prelude.{◌∙◌, sym, to_z-of_z, w128, append-nil}
 use Rattle.cdl_print.proofs.Joined.{number_put}
 use Rattle.cdl_print.proofs.number.put_suffixed_number.Goals as goal
 

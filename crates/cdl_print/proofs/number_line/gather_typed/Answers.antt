@@ -1,5 +1,4 @@
-use Rattle.std.proofs.Common.{◌∙◌, arith, ap, length, refl, subst}
-use Rattle.cdl_print.proofs.Prelude.{numbers, NcType, PutLine}
+use Rattle.cdl_print.proofs.Prelude.{◌∙◌, arith, ap, length, refl, subst, numbers, NcType, PutLine}
 use Rattle.cdl_print.proofs.Joined.{numbers_parts, numbers-none}
 use Rattle.cdl_print.proofs.NumberRows.{in_row_at_first, in_row_goes_on, in_row_all}
 use Rattle.cdl_print.proofs.number_line.gather_typed.Goals as goal

@@ -1,5 +1,4 @@
-use Rattle.std.proofs.Common.{◌≡◌, ◌+◌, ◌*◌, ◌≤◌, length, take}
-use Rattle.cdl_print.proofs.Prelude.{numbers, look_at}
+use Rattle.cdl_print.proofs.Prelude.{◌≡◌, ◌+◌, ◌*◌, ◌≤◌, length, take, numbers, look_at}
 use Rattle.cdl_print.proofs.NumberRows.{IsInRow}
 use Rattle.cdl_print.proofs.number_line.gather_typed.Given as goal
 

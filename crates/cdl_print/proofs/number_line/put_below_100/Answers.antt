@@ -1,5 +1,4 @@
-use Rattle.std.proofs.Common.{sym, arith}
-use Rattle.std.specs.Fmt.{decimal}
+use Rattle.cdl_print.proofs.Prelude.{sym, arith, decimal}
 use Rattle.itoa.proofs.Decimal.{length_one, length_two}
 use Rattle.cdl_print.proofs.NumberRows.{put_after_comma}
 use Rattle.cdl_print.proofs.number_line.put_below_100.Goals as goal

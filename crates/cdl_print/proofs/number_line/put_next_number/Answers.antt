@@ -1,5 +1,4 @@
-use Rattle.std.proofs.Common.{◌≡◌, ◌∙◌, ℕ, true, List, ap, subst, sym, to_z-of_z, unsigned_abs}
-use Rattle.cdl_print.proofs.Prelude.{decimal, w128, shows_below_100, look_at, PutInRow}
+use Rattle.cdl_print.proofs.Prelude.{◌≡◌, ◌∙◌, ℕ, true, List, ap, subst, sym, to_z-of_z, unsigned_abs, decimal, w128, shows_below_100, look_at, PutInRow}
 use Rattle.cdl_print.proofs.NumberRows.{shown_digits}
 use Rattle.cdl_print.proofs.number_line.put_next_number.Goals as goal
 

@@ -1,5 +1,4 @@
-use Rattle.std.proofs.Common.{◌∙◌, ℤ, subst, to_z-of_z}
-use Rattle.cdl_print.proofs.Prelude.{w128, PutNumber}
+use Rattle.cdl_print.proofs.Prelude.{◌∙◌, ℤ, subst, to_z-of_z, w128, PutNumber}
 use Rattle.cdl_print.proofs.number_line.put_next_value.Goals as goal
 
 pub returns-in-Byte-clause-put : goal.returns-in-Byte-clause-put

@@ -1,6 +1,5 @@
-use Rattle.std.proofs.Common.{◌≡◌, ◌∙◌, ◌+◌, ◌/◌, ◌==◌, ◌<◌, [], cond, arith, rules, ap, sym, refl, length}
-use Rattle.cdl_print.proofs.Prelude.{nil_from_length, numbers, some_size}
-use Rattle.cdl_print.proofs.Joined.{numbers-none}
+use Rattle.cdl_print.proofs.Prelude.{◌≡◌, ◌∙◌, ◌+◌, ◌/◌, ◌==◌, ◌<◌, [], cond, arith, rules, ap, sym, refl, length, numbers}
+use Rattle.cdl_print.proofs.Joined.{no_numbers}
 use Rattle.cdl_print.proofs.Batches.{some_numbers}
 use Rattle.cdl_print.proofs.Takes.{length-numbers}
 use Rattle.cdl_print.proofs.PrintingLaws.{after_none, none_appended}
@@ -8,14 +7,12 @@ use Rattle.cdl_print.proofs.number_row.gather_in_row.Goals as goal
 
 pub returns-then-is_empty-clause-after : goal.returns-then-is_empty-clause-after
 returns-then-is_empty-clause-after c =
-    let empty = nil_from_length c.args.bytes.now (search rules) in
-    let none : numbers c.args.layout.now.ty c.args.bytes.now ≡ [] = numbers-none c.args.layout.now.ty c.args.bytes.now (omega (arith, ap length empty, some_size c.args.layout.now.ty)) in
+    let none : numbers c.args.layout.now.ty c.args.bytes.now ≡ [] = no_numbers _ _ (search rules) in
     rw none (after_none _ _)
 
 pub returns-then-is_empty-clause-text : goal.returns-then-is_empty-clause-text
 returns-then-is_empty-clause-text c =
-    let empty = nil_from_length c.args.bytes.now (search rules) in
-    let none : numbers c.args.layout.now.ty c.args.bytes.now ≡ [] = numbers-none c.args.layout.now.ty c.args.bytes.now (omega (arith, ap length empty, some_size c.args.layout.now.ty)) in
+    let none : numbers c.args.layout.now.ty c.args.bytes.now ≡ [] = no_numbers _ _ (search rules) in
     rw none (none_appended _ _ _)
 
 pub returns-clause-after : goal.returns-clause-after

@@ -1,5 +1,4 @@
-use Rattle.std.proofs.Common.{◌∙◌, ◌++◌, List, ℕ, ap, length, take, append_assoc, to_z-of_z}
-use Rattle.cdl_print.proofs.Prelude.{w128, cast_signed, cast_unsigned, number_text, lead_bytes, next_number_lead, look_at, number_bytes}
+use Rattle.cdl_print.proofs.Prelude.{◌∙◌, ◌++◌, List, ℕ, ap, length, take, append_assoc, to_z-of_z, w128, cast_signed, cast_unsigned, number_text, lead_bytes, next_number_lead, look_at, number_bytes}
 use Rattle.cdl_number_text.specs.code.NumberTexts.{text_of}
 use Rattle.cdl_print.proofs.number_row.gather_number.Goals as goal
 

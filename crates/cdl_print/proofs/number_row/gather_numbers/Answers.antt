@@ -1,5 +1,4 @@
-use Rattle.std.proofs.Common.{◌∙◌, arith, ap, length, length-append}
-use Rattle.nc_base.specs.Numbers.{numbers}
+use Rattle.cdl_print.proofs.Prelude.{◌∙◌, arith, ap, length, length-append, numbers}
 use Rattle.cdl_print.proofs.Batches.{row_parts}
 use Rattle.cdl_print.proofs.Joined.{numbers_parts, numbers-none}
 use Rattle.cdl_print.proofs.NumberRows.{after_number, number_appended}

@@ -1,5 +1,4 @@
-use Rattle.std.proofs.Common.{◌+◌, ◌*◌, ◌≤◌, [], length, take}
-use Rattle.cdl_print.proofs.Prelude.{numbers, look_at, gathered}
+use Rattle.cdl_print.proofs.Prelude.{◌+◌, ◌*◌, ◌≤◌, [], length, take, numbers, look_at, gathered}
 use Rattle.cdl_print.proofs.PrintingLaws.{IsUnderway}
 use Rattle.cdl_print.proofs.number_row.gather_numbers.Given as goal
 

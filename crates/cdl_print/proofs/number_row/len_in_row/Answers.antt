@@ -1,5 +1,4 @@
-use Rattle.std.proofs.Common.{◌*◌, ◌<◌, arith, ap, sym, ◌∙◌, length, take}
-use Rattle.nc_base.specs.Numbers.{numbers}
+use Rattle.cdl_print.proofs.Prelude.{◌*◌, ◌<◌, arith, ap, sym, ◌∙◌, length, take, numbers}
 use Rattle.cdl_print.proofs.Batches.{count_taken, length_taken}
 use Rattle.cdl_print.proofs.number_row.len_in_row.Goals as goal
 

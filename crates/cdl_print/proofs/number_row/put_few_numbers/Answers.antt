@@ -1,4 +1,4 @@
-use Rattle.std.proofs.Common.{take}
+use Rattle.cdl_print.proofs.Prelude.{take}
 use Rattle.cdl_print.proofs.NumberRows.{gathered_written}
 use Rattle.cdl_print.proofs.number_row.put_few_numbers.Goals as goal
 

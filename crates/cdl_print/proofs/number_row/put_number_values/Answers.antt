@@ -1,7 +1,6 @@
-use Rattle.std.proofs.Common.{rules, arith, ap, length, length-append}
-use Rattle.cdl_print.proofs.Prelude.{nil_from_length, err_from_is_err_and, numbers, some_size}
+use Rattle.cdl_print.proofs.Prelude.{rules, arith, ap, length, length-append, err_from_is_err_and, numbers}
 use Rattle.cdl_print.proofs.Batches.{batch_parts, batch_few}
-use Rattle.cdl_print.proofs.Joined.{numbers-none}
+use Rattle.cdl_print.proofs.Joined.{no_numbers}
 use Rattle.cdl_print.proofs.PrintingLaws.{underway_at_first, underway_next, underway_failed, underway_after, underway_appended, underway_within}
 use Rattle.cdl_print.proofs.number_row.put_number_values.Goals as goal
 
@@ -31,12 +30,10 @@ loop-rest-preserved g c =
 
 pub returns-clause-after : goal.returns-clause-after
 returns-clause-after g c =
-    let empty = nil_from_length c.loop-rest.rest.now (search rules) in
-    let none = numbers-none c.args.layout.now.ty c.loop-rest.rest.now (omega (arith, ap length empty, some_size c.args.layout.now.ty)) in
+    let none = no_numbers c.args.layout.now.ty c.loop-rest.rest.now (search rules) in
     underway_after _ _ _ _ _ _ (rw none at c.loop-rest.invariant)
 
 pub returns-clause-wrote : goal.returns-clause-wrote
 returns-clause-wrote g c =
-    let empty = nil_from_length c.loop-rest.rest.now (search rules) in
-    let none = numbers-none c.args.layout.now.ty c.loop-rest.rest.now (omega (arith, ap length empty, some_size c.args.layout.now.ty)) in
+    let none = no_numbers c.args.layout.now.ty c.loop-rest.rest.now (search rules) in
     underway_appended _ _ _ _ _ _ (rw none at c.loop-rest.invariant)

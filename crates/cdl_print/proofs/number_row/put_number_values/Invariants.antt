@@ -1,5 +1,4 @@
-use Rattle.std.proofs.Common.{length}
-use Rattle.cdl_print.proofs.Prelude.{numbers, look_at}
+use Rattle.cdl_print.proofs.Prelude.{length, numbers, look_at}
 use Rattle.cdl_print.proofs.PrintingLaws.{IsUnderway}
 use Rattle.cdl_print.proofs.number_row.put_number_values.Given as goal
 

@@ -1,5 +1,4 @@
-use Rattle.std.proofs.Common.{◌≡◌, ◌-◌, ◌∙◌, List, ℕ, ap, arith, length, cond, sym}
-use Rattle.nc_base.specs.ValueText.{column}
+use Rattle.cdl_print.proofs.Prelude.{◌≡◌, ◌-◌, ◌∙◌, List, ℕ, ap, arith, length, cond, sym, column}
 use Rattle.cdl_print.proofs.Openings.{name_prefix, prefix_none, prefix_more, prefix_whole}
 use Rattle.cdl_print.proofs.opening.columns_left_after_name.Goals.{then-needs_leading_backslash, else-needs_leading_backslash}
 use Rattle.cdl_print.proofs.opening.columns_left_after_name.Goals as goal

@@ -1,5 +1,4 @@
-use Rattle.std.proofs.Common.{◌≡◌, ◌-◌}
-use Rattle.nc_base.specs.ValueText.{column}
+use Rattle.cdl_print.proofs.Prelude.{◌≡◌, ◌-◌, column}
 use Rattle.cdl_print.proofs.Openings.{name_prefix}
 use Rattle.cdl_print.proofs.opening.columns_left_after_name.Given as goal
 

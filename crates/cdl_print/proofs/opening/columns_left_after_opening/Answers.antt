@@ -1,5 +1,4 @@
-use Rattle.std.proofs.Common.{◌∙◌}
-use Rattle.nc_base.specs.Escapes.{escaped_name}
+use Rattle.cdl_print.proofs.Prelude.{◌∙◌, escaped_name}
 use Rattle.cdl_print.proofs.Openings.{columns_left_opening}
 use Rattle.cdl_print.proofs.opening.columns_left_after_opening.Goals as goal
 

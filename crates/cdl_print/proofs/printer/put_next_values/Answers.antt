@@ -1,4 +1,4 @@
-use Rattle.std.proofs.Common.{sym, arith}
+use Rattle.cdl_print.proofs.Prelude.{sym, arith}
 use Rattle.cdl_print.proofs.CharRows.{chars_count}
 use Rattle.cdl_print.proofs.printer.put_next_values.Goals as goal
 

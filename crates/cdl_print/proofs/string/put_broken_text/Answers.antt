@@ -1,5 +1,4 @@
-use Rattle.std.proofs.Common.{rules, arith, ◌<◌, length}
-use Rattle.std.proofs.lemmas.Result.{err_from_is_err_and}
+use Rattle.cdl_print.proofs.Prelude.{rules, arith, ◌<◌, length, err_from_is_err_and}
 use Rattle.cdl_print.proofs.Begun.{begun_at_first, begun_next, begun_partway}
 use Rattle.cdl_print.proofs.Runs.{line_len-le, line_len-some, broken_text-parts}
 use Rattle.cdl_print.proofs.string.put_broken_text.Goals as goal

@@ -1,5 +1,4 @@
-use Rattle.std.proofs.Common.{length}
-use Rattle.nc_base.specs.HeadText.{broken_text}
+use Rattle.cdl_print.proofs.Prelude.{length, broken_text}
 use Rattle.cdl_print.proofs.Begun.{IsBegun}
 use Rattle.cdl_print.proofs.string.put_broken_text.Given as goal
 

@@ -1,5 +1,4 @@
-use Rattle.std.proofs.Common.{◌≡◌, ◌==◌, take}
-use Rattle.cdl_print.proofs.Prelude.{list_all}
+use Rattle.cdl_print.proofs.Prelude.{◌≡◌, ◌==◌, take, list_all}
 use Rattle.cdl_print.proofs.trailing_nuls.are_nuls.Given as goal
 
 abbrev pub invariant-loop-b : goal.invariant-loop-b

@@ -1,5 +1,4 @@
-use Rattle.std.proofs.Common.{◌-◌, ◌∙◌, arith, ap, length, take, sym}
-use Rattle.cdl_print.proofs.Prelude.{take-take}
+use Rattle.cdl_print.proofs.Prelude.{◌-◌, ◌∙◌, arith, ap, length, take, sym, take-take}
 use Rattle.cdl_print.proofs.TrailingNuls.{nul_block}
 use Rattle.cdl_print.proofs.trailing_nuls.len_without_nul_blocks.Goals as goal
 

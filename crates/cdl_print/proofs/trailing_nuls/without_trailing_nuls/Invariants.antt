@@ -1,5 +1,4 @@
-use Rattle.std.proofs.Common.{◌≡◌, ◌+◌, ◌≤◌, ◌==◌, length, take}
-use Rattle.std.specs.List.{suffix_len}
+use Rattle.cdl_print.proofs.Prelude.{◌≡◌, ◌+◌, ◌≤◌, ◌==◌, length, take, suffix_len}
 use Rattle.cdl_print.proofs.trailing_nuls.without_trailing_nuls.Given as goal
 
 abbrev pub invariant-loop-len : goal.invariant-loop-len

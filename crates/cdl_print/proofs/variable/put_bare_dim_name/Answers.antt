@@ -1,8 +1,6 @@
-use Rattle.std.proofs.Common.{◌≤◌, length, ap, []}
+use Rattle.cdl_print.proofs.Prelude.{◌≤◌, length, ap, [], escaped_name, Dim}
 use Rattle.std.proofs.lemmas.Option.{slice_get_past}
 use Rattle.std.specs.Option.{option_map_or}
-use Rattle.nc_base.specs.declared.header.Dim.{Dim}
-use Rattle.nc_base.specs.Escapes.{escaped_name}
 use Rattle.cdl_print.proofs.Begun.{appended_none}
 use Rattle.cdl_print.proofs.variable.put_bare_dim_name.Goals as goal
 

@@ -1,5 +1,4 @@
-use Rattle.std.proofs.Common.{rules, ◌≡◌, ◌∷◌}
-use Rattle.std.proofs.lemmas.Result.{err_from_is_err_and}
+use Rattle.cdl_print.proofs.Prelude.{rules, ◌≡◌, ◌∷◌, err_from_is_err_and}
 use Rattle.cdl_print.proofs.Begun.{begun_at_first, begun_next, begun_partway}
 use Rattle.cdl_print.proofs.Joined.{joined_names-cons}
 use Rattle.cdl_print.proofs.variable.put_dim_names.Goals as goal

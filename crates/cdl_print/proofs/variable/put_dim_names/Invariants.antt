@@ -1,5 +1,4 @@
-use Rattle.std.proofs.Common.{length, map}
-use Rattle.nc_base.specs.HeadText.{dim_name, joined}
+use Rattle.cdl_print.proofs.Prelude.{length, map, dim_name, joined}
 use Rattle.cdl_print.proofs.Begun.{IsBegun}
 use Rattle.cdl_print.proofs.variable.put_dim_names.Given as goal
 

@@ -1,5 +1,4 @@
-use Rattle.std.proofs.Common.{sym, ◌∙◌}
-use Rattle.cdl_statements.proofs.Prelude.{lexeme_of}
+use Rattle.cdl_statements.proofs.Prelude.{sym, ◌∙◌, lexeme_of}
 use Rattle.cdl_statements.proofs.PassedValues.{further, token_on}
 use Rattle.cdl_statements.proofs.passing.pass_list.Goals as goal
 

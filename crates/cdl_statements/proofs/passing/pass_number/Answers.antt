@@ -1,9 +1,5 @@
-use Rattle.std.proofs.Common.{Bool, sym, subst}
-use Rattle.cdl_statements.proofs.Prelude.{reached}
+use Rattle.cdl_statements.proofs.Prelude.{Bool, sym, subst, reached, PassesValues, NumberList, PassesUnderscore}
 use Rattle.cdl_statements.proofs.PassedValues.{number_on, underscore_on}
-use Rattle.cdl_statements.specs.code.ListedTokens.{PassesUnderscore}
-use Rattle.cdl_statements.specs.code.PassedValues.{PassesValues}
-use Rattle.cdl_statements.specs.declared.{number_list.NumberList.NumberList}
 use Rattle.cdl_statements.proofs.passing.pass_number.Goals as goal
 
 pub returns-in-Some-clause-passes : goal.returns-in-Some-clause-passes

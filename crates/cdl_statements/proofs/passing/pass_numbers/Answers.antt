@@ -1,7 +1,5 @@
-use Rattle.std.proofs.Common.{subst}
-use Rattle.cdl_statements.proofs.Prelude.{SamePlace, reached}
+use Rattle.cdl_statements.proofs.Prelude.{subst, SamePlace, reached, NumberList}
 use Rattle.cdl_statements.proofs.PassedValues.{ended_at, stays}
-use Rattle.cdl_statements.specs.declared.{number_list.NumberList.NumberList}
 use Rattle.cdl_statements.proofs.passing.pass_numbers.Goals as goal
 
 pub numbers-init : goal.numbers-init

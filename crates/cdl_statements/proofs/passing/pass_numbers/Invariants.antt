@@ -1,6 +1,4 @@
-use Rattle.std.proofs.Common.{◌-◌, length}
-use Rattle.cdl_statements.proofs.Prelude.{offset_of, reached, text_of}
-use Rattle.cdl_statements.specs.code.PassedValues.{PassesValues}
+use Rattle.cdl_statements.proofs.Prelude.{◌-◌, length, offset_of, reached, text_of, PassesValues}
 use Rattle.cdl_statements.proofs.passing.pass_numbers.Given as goal
 
 abbrev pub invariant-numbers : goal.invariant-numbers

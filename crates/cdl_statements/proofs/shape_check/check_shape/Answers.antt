@@ -1,5 +1,4 @@
-use Rattle.std.proofs.Common.{sym, ◌∙◌}
-use Rattle.cdl_statements.specs.code.Cutters.{version_of, words}
+use Rattle.cdl_statements.proofs.Prelude.{sym, ◌∙◌, version_of, words}
 use Rattle.cdl_statements.proofs.Sections.{piece_completes, said_is}
 use Rattle.cdl_statements.proofs.shape_check.check_shape.Goals as goal
 

@@ -1,5 +1,4 @@
-use Rattle.std.proofs.Common.{rules}
-use Rattle.cdl_statements.proofs.Prelude.{completes}
+use Rattle.cdl_statements.proofs.Prelude.{rules, completes}
 use Rattle.cdl_statements.proofs.shape_check.check_shape_by_due.Goals as goal
 
 pub tokens-preserved : goal.tokens-preserved

@@ -1,5 +1,4 @@
-use Rattle.std.proofs.Common.{◌≡◌, ◌-◌, length, false}
-use Rattle.cdl_statements.proofs.Prelude.{first_bad, option_or, completes, words, after, is_done, offset_of, text_of, version_of}
+use Rattle.cdl_statements.proofs.Prelude.{◌≡◌, ◌-◌, length, false, first_bad, option_or, completes, words, after, is_done, offset_of, text_of, version_of}
 use Rattle.cdl_statements.proofs.shape_check.check_shape_by_due.Given as goal
 
 abbrev pub invariant-tokens : goal.invariant-tokens

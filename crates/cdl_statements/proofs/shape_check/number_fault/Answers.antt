@@ -1,5 +1,4 @@
-use Rattle.std.proofs.Common.{rules, ◌≡◌, true, false, sym, ◌∙◌, refl, is_none}
-use Rattle.cdl_tokens.specs.Numerals.{numeral}
+use Rattle.cdl_statements.proofs.Prelude.{rules, ◌≡◌, true, false, sym, ◌∙◌, refl, is_none, numeral}
 use Rattle.cdl_statements.proofs.ShapeChecks.{bad_number}
 use Rattle.cdl_statements.proofs.shape_check.number_fault.Goals as goal
 

@@ -1,6 +1,6 @@
 use Rattle.nc_base.proofs.PartPlaces.{coherent}
 use Rattle.nc_base.proofs.SoundSpelling.{spelled-sound}
-use Rattle.nc_base.specs.Grammar.{header_part}
+use Rattle.nc_base.proofs.Prelude.{header_part}
 use Rattle.nc_base.proofs.laws.header_is_coherent.Goals as goal
 
 pub returns-clause-coherent : goal.returns-clause-coherent

@@ -1,4 +1,4 @@
-use Rattle.std.proofs.Common.{◌∙◌}
+use Rattle.nc_base.proofs.Prelude.{◌∙◌}
 use Rattle.nc_base.proofs.NameLemmas.{is_ok-is_utf8}
 use Rattle.nc_base.proofs.name.is_utf8.Goals as goal
 

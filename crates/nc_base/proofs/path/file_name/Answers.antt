@@ -1,5 +1,4 @@
-use Rattle.std.proofs.Common.{◌∙◌, sym, lit<, Some, None}
-use Rattle.std.proofs.lemmas.Str.Pattern.{rfind_char}
+use Rattle.nc_base.proofs.Prelude.{◌∙◌, sym, lit<, Some, None, rfind_char}
 use Rattle.nc_base.proofs.PathLemmas.{after_last-IsLastPlace, after_last-HasNoPlace}
 use Rattle.nc_base.proofs.path.file_name.Goals as goal
 

@@ -1,5 +1,4 @@
-use Rattle.std.proofs.Common.{◌≡◌, ◌-◌, ◌∙◌, sym, ap, take, lit<, Some, None, arith}
-use Rattle.std.proofs.lemmas.Str.Pattern.{rfind_char}
+use Rattle.nc_base.proofs.Prelude.{◌≡◌, ◌-◌, ◌∙◌, sym, ap, take, lit<, Some, None, arith, rfind_char}
 use Rattle.nc_base.proofs.PathLemmas.{without_extension-IsLastPlace, without_extension-same}
 use Rattle.nc_base.proofs.path.without_extension.Goals as goal
 

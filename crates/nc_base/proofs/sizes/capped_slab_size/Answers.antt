@@ -1,5 +1,4 @@
-use Rattle.std.proofs.Common.{◌≡◌, ◌+◌, ◌*◌, min, get_or, drop, map, arith, ◌∙◌, ap}
-use Rattle.nc_base.specs.Sizes.{dim_len, product, slab_limit}
+use Rattle.nc_base.proofs.Prelude.{◌≡◌, ◌+◌, ◌*◌, min, get_or, drop, map, arith, ◌∙◌, ap, dim_len, product, slab_limit}
 use Rattle.nc_base.proofs.SizeLaws.{capped_more}
 use Rattle.nc_base.proofs.sizes.capped_slab_size.Goals as goal
 

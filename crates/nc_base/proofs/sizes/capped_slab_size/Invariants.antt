@@ -1,5 +1,4 @@
-use Rattle.std.proofs.Common.{◌≡◌, ◌+◌, ◌*◌, ◌≤◌, drop, map, min}
-use Rattle.nc_base.proofs.Prelude.{size_of, dim_len, product, slab_limit}
+use Rattle.nc_base.proofs.Prelude.{◌≡◌, ◌+◌, ◌*◌, ◌≤◌, drop, map, min, size_of, dim_len, product, slab_limit}
 use Rattle.nc_base.proofs.sizes.capped_slab_size.Given as goal
 
 -- what has been multiplied, times the lengths that are left, keeps the capped product

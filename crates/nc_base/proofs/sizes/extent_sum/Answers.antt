@@ -1,5 +1,4 @@
-use Rattle.std.proofs.Common.{◌-◌, ◌*◌, ◌^◌, ◌<◌, arith}
-use Rattle.std.proofs.lemmas.Nat.{mul-lt}
+use Rattle.nc_base.proofs.Prelude.{◌-◌, ◌^◌, arith, mul-lt}
 use Rattle.nc_base.proofs.sizes.extent_sum.Goals as goal
 
 pub overflow_mul-result : goal.overflow_mul-result

@@ -1,5 +1,4 @@
-use Rattle.std.proofs.Common.{◌≡◌}
-use Rattle.nc_base.specs.code.SizeParts.{least_record_begin}
+use Rattle.nc_base.proofs.Prelude.{◌≡◌, least_record_begin}
 use Rattle.nc_base.proofs.SizeLaws.{seen}
 use Rattle.nc_base.proofs.sizes.least_record_begin.Given as goal
 

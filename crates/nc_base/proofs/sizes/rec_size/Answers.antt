@@ -1,5 +1,4 @@
-use Rattle.std.proofs.Common.{◌≡◌, ℕ, ◌+◌, ◌<◌, ◌&&◌, List, length, get_or, sym, ◌∙◌, ap, subst, arith, if◌then◌else◌}
-use Rattle.nc_base.proofs.Prelude.{slab_len, is_narrow, Var}
+use Rattle.nc_base.proofs.Prelude.{◌≡◌, ℕ, ◌+◌, ◌<◌, ◌&&◌, List, length, get_or, sym, ◌∙◌, ap, subst, arith, if◌then◌else◌, slab_len, is_narrow, Var}
 use Rattle.nc_base.proofs.SizeLaws.{sums_more_at, sums_skipped_at, checked-none_at}
 use Rattle.nc_base.proofs.sizes.rec_size.Goals as goal
 use Rattle.nc_base.proofs.sizes.rec_size.Goals.{then-is_record_var+in_ok-slab, else-is_record_var}

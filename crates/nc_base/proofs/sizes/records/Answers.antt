@@ -1,5 +1,4 @@
-use Rattle.std.proofs.Common.{◌≡◌, ◌∙◌, ap, sym, subst, List, Some, ◌/◌, IfSome}
-use Rattle.nc_base.proofs.Prelude.{record_vars, least_record_begin, Dim, Var}
+use Rattle.nc_base.proofs.Prelude.{◌≡◌, ◌∙◌, ap, sym, subst, List, Some, ◌/◌, IfSome, record_vars, least_record_begin, Dim, Var}
 use Rattle.nc_base.proofs.SoundLaws.{streamed}
 use Rattle.nc_base.proofs.sizes.records.Goals as goal
 

@@ -1,4 +1,4 @@
-use Rattle.std.proofs.Common.{◌∙◌, ap, is_some}
+use Rattle.nc_base.proofs.Prelude.{◌∙◌, ap, is_some}
 use Rattle.nc_base.proofs.SoundLaws.{checked-sound}
 use Rattle.nc_base.proofs.sizes.sound_record_size.Goals as goal
 

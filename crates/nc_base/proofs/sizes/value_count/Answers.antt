@@ -1,6 +1,4 @@
-use Rattle.std.proofs.Common.{◌*◌, ◌/◌, ◌^◌, ◌<◌, arith}
-use Rattle.std.proofs.Math.Nat.{div-le_self}
-use Rattle.std.proofs.lemmas.Nat.{mul-lt}
+use Rattle.nc_base.proofs.Prelude.{◌/◌, ◌^◌, arith, mul-lt, div-le_self}
 use Rattle.nc_base.proofs.sizes.value_count.Goals as goal
 
 pub overflow_mul-result : goal.overflow_mul-result

@@ -1,5 +1,4 @@
-use Rattle.std.proofs.Common.{length-drop, arith}
-use Rattle.nc_base.proofs.Prelude.{take_all}
+use Rattle.nc_base.proofs.Prelude.{length-drop, arith, take_all}
 use Rattle.nc_base.proofs.SoundLaws.{sound_shape}
 use Rattle.nc_base.proofs.sound.are_sound_dimids.Goals as goal
 

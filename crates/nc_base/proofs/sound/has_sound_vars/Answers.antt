@@ -1,4 +1,4 @@
-use Rattle.std.proofs.Common.{arith}
+use Rattle.nc_base.proofs.Prelude.{arith}
 use Rattle.nc_base.proofs.SoundLaws.{checked-small, small-checked}
 use Rattle.nc_base.proofs.sound.has_sound_vars.Goals as goal
 

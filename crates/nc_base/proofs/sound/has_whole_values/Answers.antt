@@ -1,4 +1,4 @@
-use Rattle.std.proofs.Common.{arith}
+use Rattle.nc_base.proofs.Prelude.{arith}
 use Rattle.nc_base.proofs.SoundLaws.{whole_values-iff}
 use Rattle.nc_base.proofs.sound.has_whole_values.Goals as goal
 

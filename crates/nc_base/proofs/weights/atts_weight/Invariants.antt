@@ -1,5 +1,4 @@
-use Rattle.std.proofs.Common.{◌≡◌, ◌-◌, ◌^◌, min, take}
-use Rattle.nc_base.proofs.Prelude.{sum_by, att_weight}
+use Rattle.nc_base.proofs.Prelude.{◌≡◌, ◌-◌, ◌^◌, min, take, sum_by, att_weight}
 use Rattle.nc_base.proofs.weights.atts_weight.Given as goal
 
 abbrev pub invariant-loop-att : goal.invariant-loop-att

@@ -1,5 +1,4 @@
-use Rattle.std.proofs.Common.{◌≡◌, ◌-◌, ◌^◌, min, take}
-use Rattle.nc_base.proofs.Prelude.{sum_by, dim_weight}
+use Rattle.nc_base.proofs.Prelude.{◌≡◌, ◌-◌, ◌^◌, min, take, sum_by, dim_weight}
 use Rattle.nc_base.proofs.weights.dims_weight.Given as goal
 
 abbrev pub invariant-loop-dim : goal.invariant-loop-dim

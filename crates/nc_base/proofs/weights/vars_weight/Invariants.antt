@@ -1,5 +1,4 @@
-use Rattle.std.proofs.Common.{◌≡◌, ◌-◌, ◌^◌, min, take}
-use Rattle.nc_base.proofs.Prelude.{sum_by, var_weight}
+use Rattle.nc_base.proofs.Prelude.{◌≡◌, ◌-◌, ◌^◌, min, take, sum_by, var_weight}
 use Rattle.nc_base.proofs.weights.vars_weight.Given as goal
 
 abbrev pub invariant-loop-var : goal.invariant-loop-var

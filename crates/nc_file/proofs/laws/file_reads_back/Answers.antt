@@ -1,4 +1,4 @@
-use Rattle.nc_base.proofs.FileHolds.{file-holds}
+use Rattle.nc_file.proofs.Prelude.{file-holds}
 use Rattle.nc_file.proofs.FileLaws.{files-hold-one, files-dumped, generated-dumped}
 use Rattle.nc_file.proofs.laws.file_reads_back.Goals as goal
 

@@ -1,6 +1,5 @@
 use Rattle.nc_base.proofs.PartOutcomes.{printed}
-use Rattle.nc_base.proofs.Printable.{header-printable}
-use Rattle.nc_base.specs.Grammar.{header_part}
+use Rattle.nc_file.proofs.Prelude.{header_part, header-printable}
 use Rattle.nc_file.proofs.laws.written_header_reads_back.Goals as goal
 
 pub returns : goal.returns

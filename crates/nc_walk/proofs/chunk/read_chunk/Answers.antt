@@ -1,5 +1,4 @@
-use Rattle.std.proofs.Common.{rules, ◌≡◌, ℕ, ◌+◌, ◌-◌, ◌*◌, ◌^◌, ◌<◌, ◌≤◌, List, length, take, drop, arith, ap, sym, subst, ◌∙◌, length-drop, length-take, refl}
-use Rattle.nc_walk.proofs.Prelude.{mul-le-mul_left, mul-le-mul_right, Slabs, Cursor, number_at, offset, IsSized, IsOffset, Ready, SourceView, having_read}
+use Rattle.nc_walk.proofs.Prelude.{rules, ◌≡◌, ℕ, ◌+◌, ◌-◌, ◌*◌, ◌^◌, ◌<◌, ◌≤◌, List, length, take, drop, arith, ap, sym, subst, ◌∙◌, length-drop, length-take, refl, mul-le-mul_left, mul-le-mul_right, Slabs, Cursor, number_at, offset, IsSized, IsOffset, Ready, SourceView, having_read}
 use Rattle.nc_walk.proofs.ChunkSteps.{whole_ready, next_offset, goes_on, fails}
 use Rattle.nc_walk.proofs.chunk.read_chunk.Goals as goal
 

@@ -1,5 +1,4 @@
-use Rattle.std.proofs.Common.{◌≡◌, ◌-◌}
-use Rattle.nc_walk.proofs.Prelude.{number_at, IsOffset, use_of, reading}
+use Rattle.nc_walk.proofs.Prelude.{◌≡◌, ◌-◌, number_at, IsOffset, use_of, reading}
 use Rattle.nc_walk.proofs.ChunkSteps.{Going}
 use Rattle.nc_walk.proofs.chunk.read_chunk.Given as goal
 

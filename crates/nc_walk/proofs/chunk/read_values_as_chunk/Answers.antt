@@ -1,4 +1,4 @@
-use Rattle.nc_walk.specs.code.Slabs.{number_at}
+use Rattle.nc_walk.proofs.Prelude.{number_at}
 use Rattle.nc_walk.proofs.OneRead.{reached}
 use Rattle.nc_walk.proofs.ChunkSteps.{to_slab_end}
 use Rattle.nc_walk.proofs.chunk.read_values_as_chunk.Goals as goal

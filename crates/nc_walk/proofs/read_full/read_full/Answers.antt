@@ -1,5 +1,4 @@
-use Rattle.std.proofs.Common.{◌<◌, length, arith}
-use Rattle.std.proofs.lemmas.Result.{err_from_is_err_and}
+use Rattle.nc_walk.proofs.Prelude.{◌<◌, length, arith, err_from_is_err_and}
 use Rattle.nc_walk.proofs.FullReadSteps.{filled_on, fails_on}
 use Rattle.nc_walk.proofs.read_full.read_full.Goals as goal
 

@@ -1,4 +1,4 @@
-use Rattle.std.proofs.Common.{◌-◌, length}
+use Rattle.nc_walk.proofs.Prelude.{◌-◌, length}
 use Rattle.nc_walk.proofs.FullReadSteps.{Filling}
 use Rattle.nc_walk.proofs.read_full.read_on.Given as goal
 

@@ -1,5 +1,4 @@
-use Rattle.std.proofs.Common.{◌*◌, drop, arith, length-take}
-use Rattle.nc_walk.proofs.Prelude.{err_from_is_err_and}
+use Rattle.nc_walk.proofs.Prelude.{◌*◌, drop, arith, length-take, err_from_is_err_and}
 use Rattle.nc_walk.proofs.OneRead.{answered, ends_in_slab, slab_read, partway}
 use Rattle.nc_walk.proofs.reading.read_values.Goals as goal
 

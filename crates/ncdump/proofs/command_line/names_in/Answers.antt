@@ -1,5 +1,4 @@
-use Rattle.std.proofs.Common.{◌∙◌, lit<}
-use Rattle.std.proofs.lemmas.Iterator.Consumers.{YieldsList-at, YieldsList-end}
+use Rattle.ncdump.proofs.Prelude.{◌∙◌, lit<, YieldsList-at, YieldsList-end}
 use Rattle.std.proofs.lemmas.Iterator.Splits.{YieldsList-from_str_split}
 use Rattle.ncdump.proofs.command_line.names_in.Goals as goal
 

@@ -1,4 +1,4 @@
-use Rattle.std.proofs.Common.{◌≡◌, map}
+use Rattle.ncdump.proofs.Prelude.{◌≡◌, map}
 use Rattle.ncdump.proofs.command_line.names_in.Given as goal
 
 abbrev pub invariant-loop-name : goal.invariant-loop-name

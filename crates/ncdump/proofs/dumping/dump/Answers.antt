@@ -1,5 +1,4 @@
-use Rattle.std.proofs.Common.{◌∙◌}
-use Rattle.ncdump.proofs.Prelude.{err_from_is_err_and, transparent_map, options_of}
+use Rattle.ncdump.proofs.Prelude.{◌∙◌, err_from_is_err_and, transparent_map, options_of}
 use Rattle.ncdump.proofs.DumpLaws.{transparent-refused, transparent-unselected, transparent-shown}
 use Rattle.ncdump.proofs.dumping.dump.Goals as goal
 

@@ -1,7 +1,6 @@
-use Rattle.std.proofs.Common.{rules, ◌&&◌}
+use Rattle.ncdump.proofs.Prelude.{rules, ◌&&◌, YieldsList-at, Var, holds_if}
 use Rattle.std.proofs.lemmas.Iterator.{YieldsList-from_map, YieldsList-from_slice}
 use Rattle.std.proofs.lemmas.Iterator.Adapters.{items_from_extend}
-use Rattle.ncdump.proofs.Prelude.{YieldsList-at, Var, holds_if}
 use Rattle.ncdump.proofs.selection.selection_in_both.Goals as goal
 
 pub returns : goal.returns

@@ -1,5 +1,4 @@
-use Rattle.std.proofs.Common.{◌≡◌, Bool, ◌&&◌, ◌||◌, nat_lt, not, ap, sym, ◌∙◌, slice_get}
-use Rattle.ncdump.proofs.Prelude.{has_values, IsSoundVar, is_record_var}
+use Rattle.ncdump.proofs.Prelude.{◌≡◌, Bool, ◌&&◌, ◌||◌, nat_lt, not, ap, sym, ◌∙◌, slice_get, has_values, IsSoundVar, is_record_var}
 use Rattle.nc_base.proofs.SoundLaws.{has_values-unless_empty}
 use Rattle.nc_base.proofs.Found.{if-some, all-at}
 use Rattle.ncdump.proofs.showing.is_shown.Goals as goal

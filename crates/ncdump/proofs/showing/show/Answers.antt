@@ -1,5 +1,4 @@
-use Rattle.std.proofs.Common.{ℕ, Bool, List, length, ap, ◌∙◌, subst, Ok, Err}
-use Rattle.ncdump.proofs.Prelude.{err_from_is_err_and, head_text, record_count, Appended, FailedPartway, appended_then, transparent_any, transparent_map, WriteFailed, options_of, dumped, Shows, ShowsSelected}
+use Rattle.ncdump.proofs.Prelude.{ℕ, Bool, List, length, ap, ◌∙◌, subst, Ok, Err, err_from_is_err_and, head_text, record_count, Appended, FailedPartway, appended_then, transparent_any, transparent_map, WriteFailed, options_of, dumped, Shows, ShowsSelected}
 use Rattle.ncdump.proofs.Calls.{call}
 use Rattle.ncdump.proofs.WholeText.{no-head, no-word, no-values, no-brace, all-written, brace}
 use Rattle.ncdump.proofs.showing.show.Goals as goal

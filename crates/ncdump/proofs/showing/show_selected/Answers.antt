@@ -1,5 +1,4 @@
-use Rattle.std.proofs.Common.{◌<◌, length, refl, ◌∙◌, arith}
-use Rattle.ncdump.proofs.Prelude.{err_from_is_err_and, transparent_any, transparent_map, dumped, appended_none}
+use Rattle.ncdump.proofs.Prelude.{◌<◌, length, refl, ◌∙◌, arith, err_from_is_err_and, transparent_any, transparent_map, dumped, appended_none}
 use Rattle.ncdump.proofs.Selected.{selected-begins, place-skips, place-shown, place-failed, selected-all}
 use Rattle.ncdump.proofs.Blame.{fails-after}
 use Rattle.ncdump.proofs.showing.show_selected.Goals as goal

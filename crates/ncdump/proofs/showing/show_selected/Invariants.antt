@@ -1,5 +1,4 @@
-use Rattle.std.proofs.Common.{◌≡◌, length}
-use Rattle.ncdump.proofs.Prelude.{OnTrue, dumped}
+use Rattle.ncdump.proofs.Prelude.{◌≡◌, length, OnTrue, dumped}
 use Rattle.ncdump.proofs.Selected.{Selected}
 use Rattle.ncdump.proofs.showing.show_selected.Given as goal
 

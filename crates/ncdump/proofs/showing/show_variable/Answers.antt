@@ -1,5 +1,4 @@
-use Rattle.std.proofs.Common.{[], sym, ap, ◌∙◌, subst, Ok, slice_get}
-use Rattle.ncdump.proofs.Prelude.{err_from_is_err_and, look_of, variable_opening, Look, Appended, FailedPartway, transparent_map, HasPrinted}
+use Rattle.ncdump.proofs.Prelude.{[], sym, ap, ◌∙◌, subst, Ok, slice_get, err_from_is_err_and, look_of, variable_opening, Look, Appended, FailedPartway, transparent_map, HasPrinted}
 use Rattle.ncdump.proofs.OneVariable.{some-at, at-some, showing-begins, takes-chunk, showing-on, unwritten-chunk, shown-whole, unwritten-closing, shown-prefix, unread, unwritten-opening}
 use Rattle.ncdump.proofs.showing.show_variable.Goals as goal
 

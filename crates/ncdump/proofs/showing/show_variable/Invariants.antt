@@ -1,4 +1,4 @@
-use Rattle.std.proofs.Common.{length}
+use Rattle.ncdump.proofs.Prelude.{length}
 use Rattle.ncdump.proofs.OneVariable.{Showing}
 use Rattle.ncdump.proofs.showing.show_variable.Given as goal
 

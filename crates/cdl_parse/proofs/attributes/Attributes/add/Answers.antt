@@ -1,5 +1,4 @@
-use Rattle.std.proofs.Common.{rules, ◌≡◌, ◌∙◌, ap, not}
-use Rattle.cdl_parse.proofs.Prelude.{Att, att_names, has_attribute, is_new, new_is}
+use Rattle.cdl_parse.proofs.Prelude.{rules, ◌≡◌, ◌∙◌, ap, not, Att, att_names, has_attribute, is_new, new_is}
 use Rattle.cdl_parse.proofs.attributes.Attributes.add.Goals as goal
 
 pub returns-in_ok-push-clause-new : goal.returns-in_ok-push-clause-new

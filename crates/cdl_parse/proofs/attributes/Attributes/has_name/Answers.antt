@@ -1,5 +1,4 @@
-use Rattle.std.proofs.Common.{List, ◌∙◌, ap, sym, is_some}
-use Rattle.cdl_parse.proofs.Prelude.{Att, any_is, att_names, has_attribute, position_of}
+use Rattle.cdl_parse.proofs.Prelude.{List, ◌∙◌, ap, sym, is_some, Att, any_is, att_names, has_attribute, position_of}
 use Rattle.cdl_parse.proofs.attributes.Attributes.has_name.Goals as goal
 
 pub returns : goal.returns

@@ -1,5 +1,4 @@
-use Rattle.std.proofs.Common.{Ok, ap, sym, ◌∙◌, subst}
-use Rattle.cdl_parse.proofs.Prelude.{next_token, text_of, words, is_mark, lexeme, section_of, add_att, Leaves, name_first, constants_said, after_mark, state_of}
+use Rattle.cdl_parse.proofs.Prelude.{Ok, ap, sym, ◌∙◌, subst, next_token, text_of, words, is_mark, lexeme, section_of, add_att, Leaves, name_first, constants_said, after_mark, state_of}
 use Rattle.cdl_parse.proofs.Defining.{closes, goes_global, gone, makes_first_mark, makes_global, only_globals}
 use Rattle.cdl_parse.proofs.StatementWords.{begins}
 use Rattle.cdl_parse.proofs.definitions.Definitions.apply_after_opening.Goals as goal

@@ -1,5 +1,4 @@
-use Rattle.std.proofs.Common.{Ok, ap, sym, ◌∙◌}
-use Rattle.cdl_parse.proofs.Prelude.{next_token, text_of, words, opens_section_after, lexeme, section_of, Dimensions, after_mark, state_of}
+use Rattle.cdl_parse.proofs.Prelude.{Ok, ap, sym, ◌∙◌, next_token, text_of, words, opens_section_after, lexeme, section_of, Dimensions, after_mark, state_of}
 use Rattle.cdl_parse.proofs.Defining.{goes_dimensions, gone, makes_dimension_mark, makes_dimensions}
 use Rattle.cdl_parse.proofs.StatementWords.{begins}
 use Rattle.cdl_parse.proofs.definitions.Definitions.apply_in_dimensions.Goals as goal

@@ -1,5 +1,4 @@
-use Rattle.std.proofs.Common.{Ok, drop, ap, sym, ◌∙◌}
-use Rattle.cdl_parse.proofs.Prelude.{next_token, text_of, words, completes, is_mark, lexeme, section_of, AttributeName, VariableName, after_mark, state_of}
+use Rattle.cdl_parse.proofs.Prelude.{Ok, drop, ap, sym, ◌∙◌, next_token, text_of, words, completes, is_mark, lexeme, section_of, AttributeName, VariableName, after_mark, state_of}
 use Rattle.cdl_statements.specs.code.DueTokens.{is_name}
 use Rattle.cdl_parse.proofs.Defining.{goes_attribute, goes_declaration, gone, makes_attribute, makes_declaration, makes_variable_mark, second_on}
 use Rattle.cdl_parse.proofs.definitions.Definitions.apply_in_variables.Goals as goal

@@ -1,5 +1,4 @@
-use Rattle.std.proofs.Common.{ap, ◌∙◌}
-use Rattle.cdl_parse.proofs.Prelude.{statement_said, next_token, text_of, version_of, words, lexeme, act, state_of}
+use Rattle.cdl_parse.proofs.Prelude.{ap, ◌∙◌, statement_said, next_token, text_of, version_of, words, lexeme, act, state_of}
 use Rattle.cdl_parse.proofs.Defining.{opens}
 use Rattle.cdl_parse.proofs.StatementWords.{begins}
 use Rattle.cdl_parse.proofs.definitions.Definitions.apply_statement.Goals as goal

@@ -1,5 +1,4 @@
-use Rattle.std.proofs.Common.{rules, ◌≡◌, ◌∙◌, ap, not}
-use Rattle.cdl_parse.proofs.Prelude.{Dim, dim_names, is_dimension_name, is_new, new_is}
+use Rattle.cdl_parse.proofs.Prelude.{rules, ◌≡◌, ◌∙◌, ap, not, Dim, dim_names, is_dimension_name, is_new, new_is}
 use Rattle.cdl_parse.proofs.dimensions.Dimensions.add.Goals as goal
 
 pub returns-in_ok-push-clause-new : goal.returns-in_ok-push-clause-new

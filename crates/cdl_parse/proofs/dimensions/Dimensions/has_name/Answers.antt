@@ -1,5 +1,4 @@
-use Rattle.std.proofs.Common.{◌∙◌, ap, sym, is_some}
-use Rattle.cdl_parse.proofs.Prelude.{Dim, any_is}
+use Rattle.cdl_parse.proofs.Prelude.{◌∙◌, ap, sym, is_some, Dim, any_is}
 use Rattle.cdl_parse.proofs.DimensionPositions.{position_is}
 use Rattle.cdl_parse.proofs.dimensions.Dimensions.has_name.Goals as goal
 

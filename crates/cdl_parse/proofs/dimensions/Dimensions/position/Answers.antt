@@ -1,5 +1,4 @@
-use Rattle.std.proofs.Common.{List, ◌∙◌, ap}
-use Rattle.cdl_parse.proofs.Prelude.{position, bytes_eq, Dim, dim_names, position_of}
+use Rattle.cdl_parse.proofs.Prelude.{List, ◌∙◌, ap, position, bytes_eq, Dim, dim_names, position_of}
 use Rattle.cdl_parse.proofs.DimensionPositions.{position_is}
 use Rattle.cdl_parse.proofs.dimensions.Dimensions.position.Goals as goal
 

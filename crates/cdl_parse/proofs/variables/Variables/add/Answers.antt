@@ -1,5 +1,4 @@
-use Rattle.std.proofs.Common.{rules, ◌≡◌, ◌∙◌, ap, sym, not}
-use Rattle.cdl_parse.proofs.Prelude.{is_new, is_variable_name, variable_names}
+use Rattle.cdl_parse.proofs.Prelude.{rules, ◌≡◌, ◌∙◌, ap, sym, not, is_new, is_variable_name, variable_names}
 use Rattle.cdl_parse.proofs.DraftNames.{taken_is}
 use Rattle.cdl_parse.proofs.variables.Variables.add.Goals as goal
 

@@ -1,5 +1,4 @@
-use Rattle.std.proofs.Common.{List, ◌∙◌, ap, sym, is_some}
-use Rattle.cdl_parse.proofs.Prelude.{is_variable_name, position_of, Variable, variable_names}
+use Rattle.cdl_parse.proofs.Prelude.{List, ◌∙◌, ap, sym, is_some, is_variable_name, position_of, Variable, variable_names}
 use Rattle.cdl_parse.proofs.DraftNames.{taken_is}
 use Rattle.cdl_parse.proofs.variables.Variables.has_name.Goals as goal
 

@@ -1,5 +1,4 @@
-use Rattle.std.proofs.Common.{ap, sym, ◌∙◌, subst}
-use Rattle.cdl_parse.proofs.Prelude.{IsIndex, var_names}
+use Rattle.cdl_parse.proofs.Prelude.{ap, sym, ◌∙◌, subst, IsIndex, var_names}
 use Rattle.cdl_parse.proofs.DraftNames.{fresh_is, header_names}
 use Rattle.cdl_parse.proofs.variables.Variables.into_parts.Goals as goal
 

@@ -1,6 +1,5 @@
-use Rattle.std.proofs.Common.{◌≡◌, ◌∷◌, [], List, sym, ap, ◌∙◌, refl, map, if◌then◌else◌}
+use Rattle.cdl_statements.proofs.Prelude.{◌≡◌, ◌∷◌, [], List, sym, ap, ◌∙◌, refl, map, if◌then◌else◌, Token, left, followed, lexeme, pieces_left, tokens_left, words, after, first_piece, other_pieces, role_in, pieces_after, with_first}
 use Rattle.cdl_tokens.specs.code.Scanners as scanners
-use Rattle.cdl_statements.proofs.Prelude.{Token, left, followed, lexeme, pieces_left, tokens_left, words, after, first_piece, other_pieces, role_in, pieces_after, with_first}
 use Rattle.cdl_statements.proofs.Cuts.{advance_to, no_end, words_on, after_on}
 use Rattle.cdl_statements.proofs.cutter.Cutter.advance.Goals as goal
 

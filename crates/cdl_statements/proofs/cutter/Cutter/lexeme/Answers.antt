@@ -1,6 +1,5 @@
-use Rattle.std.proofs.Common.{◌≡◌, ◌∷◌, [], List, drop, map, sym, ap, ◌∙◌, if◌then◌else◌}
+use Rattle.cdl_statements.proofs.Prelude.{◌≡◌, ◌∷◌, [], List, drop, map, sym, ap, ◌∙◌, if◌then◌else◌, Token, left, followed, Lexeme, lexeme, words, first_piece, pieces_left, role_in, pieces_after}
 use Rattle.cdl_tokens.specs.code.Scanners as scanners
-use Rattle.cdl_statements.proofs.Prelude.{Token, left, followed, Lexeme, lexeme, words, first_piece, pieces_left, role_in, pieces_after}
 use Rattle.cdl_statements.proofs.Cuts.{begins}
 use Rattle.cdl_statements.proofs.cutter.Cutter.lexeme.Goals as goal
 

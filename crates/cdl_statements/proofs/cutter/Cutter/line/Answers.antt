@@ -1,6 +1,5 @@
-use Rattle.std.proofs.Common.{ap, sym, ◌∙◌, [], if◌then◌else◌}
+use Rattle.cdl_statements.proofs.Prelude.{ap, sym, ◌∙◌, [], if◌then◌else◌, first_line, pieces_left, role_in, pieces_after, followed, left}
 use Rattle.cdl_tokens.specs.code.Scanners as scanners
-use Rattle.cdl_statements.proofs.Prelude.{first_line, pieces_left, role_in, pieces_after, followed, left}
 use Rattle.cdl_statements.proofs.Cuts.{line_first}
 use Rattle.cdl_statements.proofs.cutter.Cutter.line.Goals as goal
 

@@ -1,6 +1,5 @@
-use Rattle.std.proofs.Common.{List, sym, ap, ◌∙◌, ℕ}
+use Rattle.cdl_statements.proofs.Prelude.{List, sym, ap, ◌∙◌, ℕ, Begins, tokens, pieces_left, role_in, pieces_after}
 use Rattle.cdl_tokens.specs.code.Scanners as scanners
-use Rattle.cdl_statements.proofs.Prelude.{Begins, tokens, pieces_left, role_in, pieces_after}
 use Rattle.cdl_statements.proofs.cutter.Cutter.new.Goals as goal
 
 pub returns-clause-pieces : goal.returns-clause-pieces

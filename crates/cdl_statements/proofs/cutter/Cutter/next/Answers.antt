@@ -1,6 +1,5 @@
-use Rattle.std.proofs.Common.{arith}
+use Rattle.cdl_statements.proofs.Prelude.{arith, pieces_left}
 use Rattle.std.proofs.lemmas.Grind.{common_steps}
-use Rattle.cdl_statements.proofs.Prelude.{pieces_left}
 use Rattle.cdl_statements.proofs.Cuts.{none_left}
 use Rattle.cdl_statements.proofs.cutter.Cutter.next.Goals as goal
 

@@ -1,5 +1,4 @@
-use Rattle.std.proofs.Common.{length, ◌-◌, ◌≡◌, ◌++◌, ◌∷◌, List, false}
-use Rattle.cdl_statements.proofs.Prelude.{offset_of, pieces_left, text_of, Token}
+use Rattle.cdl_statements.proofs.Prelude.{length, ◌-◌, ◌≡◌, ◌++◌, ◌∷◌, List, false, offset_of, pieces_left, text_of, Token}
 use Rattle.cdl_statements.proofs.cutter.Cutter.next.Given as goal
 
 abbrev pub invariant-piece : goal.invariant-piece

@@ -1,6 +1,5 @@
-use Rattle.std.proofs.Common.{◌≡◌, ◌∷◌, ◌<◌, List, ℕ, sym, ap, ◌∙◌, subst}
+use Rattle.cdl_statements.proofs.Prelude.{◌≡◌, ◌∷◌, ◌<◌, List, ℕ, sym, ap, ◌∙◌, subst, Lexeme, lexeme, Passes, role_in}
 use Rattle.cdl_tokens.specs.code.Scanners as scanners
-use Rattle.cdl_statements.proofs.Prelude.{Lexeme, lexeme, Passes, role_in}
 use Rattle.cdl_statements.proofs.ListedTokens.{passes}
 use Rattle.cdl_statements.proofs.cutter.Cutter.token_and_comma.Goals as goal
 

@@ -1,6 +1,5 @@
-use Rattle.std.proofs.Common.{refl, sym, ap, subst}
+use Rattle.cdl_statements.proofs.Prelude.{refl, sym, ap, subst, raw, TokenKind, Passes, reached, role_of, lexeme_with}
 use Rattle.cdl_tokens.specs.code.Scanners as scanners
-use Rattle.cdl_statements.proofs.Prelude.{raw, TokenKind, Passes, reached, role_of, lexeme_with}
 use Rattle.cdl_statements.proofs.ListedTokens.{passes}
 use Rattle.cdl_statements.proofs.number_list.NumberList.number_and_comma.Goals as goal
 

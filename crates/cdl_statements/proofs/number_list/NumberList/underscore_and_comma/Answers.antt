@@ -1,8 +1,6 @@
-use Rattle.std.proofs.Common.{◌≡◌, ℕ, List, [], ◌∷◌, refl, sym, ap, ◌∙◌, subst₂}
+use Rattle.cdl_statements.proofs.Prelude.{◌≡◌, ℕ, List, [], ◌∷◌, refl, sym, ap, ◌∙◌, subst₂, raw, TokenKind, Passes, reached, role_of, lexeme_with, Other, is_section}
 use Rattle.cdl_tokens.specs.code.Scanners as scanners
 use Rattle.cdl_tokens.specs.declared.token.TokenKind.TheVariants as kinds
-use Rattle.cdl_statements.proofs.Prelude.{raw, TokenKind, Passes, reached, role_of, lexeme_with, Other}
-use Rattle.cdl_statements.specs.Pieces.{is_section}
 use Rattle.cdl_statements.proofs.ListedTokens.{passes}
 use Rattle.cdl_statements.proofs.number_list.NumberList.underscore_and_comma.Goals as goal
 

@@ -1,5 +1,4 @@
-use Rattle.std.proofs.Common.{ℕ, ◌≡◌, ◌+◌, ◌-◌, ◌∷◌, ◌++◌, List, [], length, ap, sym, ◌∙◌, arith, replicate}
-use Rattle.nc_base.proofs.Prelude.{common_steps, nil_from_length, filled_rows}
+use Rattle.nc_base.proofs.Prelude.{ℕ, ◌≡◌, ◌+◌, ◌-◌, ◌∷◌, ◌++◌, List, [], length, ap, sym, ◌∙◌, arith, replicate, common_steps, nil_from_length, filled_rows}
 use Rattle.nc_base.proofs.FilledRows.{AreSameEnds, no-rows, like-rows, filled_end, ends_end}
 use Rattle.nc_base.proofs.listed_array.ListedArray.end_row.Goals as goal
 use Rattle.nc_base.proofs.listed_array.ListedArray.end_row.Goals.{then-is_empty, else-is_empty+then-row_len-self, else-is_empty+else-row_len-self}

@@ -1,4 +1,4 @@
-use Rattle.std.proofs.Common.{ℕ, ◌≡◌, ◌-◌, ◌*◌, ◌≤◌, length, ap, arith}
+use Rattle.nc_base.proofs.Prelude.{ℕ, ◌≡◌, ◌-◌, ◌*◌, ◌≤◌, length, ap, arith}
 use Rattle.nc_base.proofs.FilledRows.{length_filled}
 use Rattle.nc_base.proofs.listed_array.ListedArray.len.Goals as goal
 

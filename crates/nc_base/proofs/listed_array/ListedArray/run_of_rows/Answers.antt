@@ -1,5 +1,4 @@
-use Rattle.std.proofs.Common.{ℕ, ◌≡◌, ◌+◌, ◌-◌, ◌*◌, ◌/◌, ◌%◌, List, length, get_or, take, drop, min, max, refl, ap, sym, ◌∙◌, arith}
-use Rattle.nc_base.proofs.Prelude.{mod-add-div, take_all, length-drop, length-take, length-take-le, drop-drop, drop_min, row_start}
+use Rattle.nc_base.proofs.Prelude.{ℕ, ◌≡◌, ◌+◌, ◌-◌, ◌*◌, ◌/◌, ◌%◌, List, length, get_or, take, drop, min, max, refl, ap, sym, ◌∙◌, arith, mod-add-div, take_all, length-drop, length-take, length-take-le, drop-drop, drop_min, row_start}
 use Rattle.nc_base.proofs.FilledRows.{row-of, in_row, after_rows, stands-from}
 use Rattle.nc_base.proofs.listed_array.ListedArray.run_of_rows.Goals as goal
 

@@ -1,4 +1,4 @@
-use Rattle.std.proofs.Common.{◌≡◌, ◌++◌, ◌-◌, drop, length}
+use Rattle.nc_base.proofs.Prelude.{◌≡◌, ◌++◌, ◌-◌, drop, length}
 use Rattle.nc_base.proofs.listed_array.ListedArray.to_bytes.Given as goal
 
 abbrev pub invariant-loop-filled : goal.invariant-loop-filled

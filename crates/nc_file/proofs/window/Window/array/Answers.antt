@@ -1,4 +1,4 @@
-use Rattle.std.proofs.Common.{refl}
+use Rattle.nc_file.proofs.Prelude.{refl}
 use Rattle.nc_file.proofs.Bytes.{array_held}
 use Rattle.nc_file.proofs.window.Window.array.Goals as goal
 

@@ -1,5 +1,4 @@
-use Rattle.std.proofs.Common.{ℕ, arith, length-set}
-use Rattle.nc_file.proofs.Prelude.{err_from_is_err_and}
+use Rattle.nc_file.proofs.Prelude.{ℕ, arith, length-set, err_from_is_err_and}
 use Rattle.nc_file.proofs.Bytes.{on-by, array-next, read-array, stop-bytes}
 use Rattle.nc_file.proofs.window.Window.array_by_bytes.Goals as goal
 

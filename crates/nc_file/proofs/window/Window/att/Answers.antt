@@ -1,7 +1,4 @@
-use Rattle.std.proofs.Common.{rules, subst, sym, ap, ◌∙◌, Ok, length}
-use Rattle.nc_base.specs.Grammar.{att_part, ignored}
-use Rattle.nc_base.specs.code.PartRuns.{printed_len}
-use Rattle.nc_file.proofs.Prelude.{Read, padding_len}
+use Rattle.nc_file.proofs.Prelude.{rules, subst, sym, ap, ◌∙◌, Ok, length, Read, padding_len, att_part, ignored, printed_len}
 use Rattle.nc_file.proofs.HeaderLen.{att-used}
 use Rattle.nc_file.proofs.PartRuns.{part_runs}
 use Rattle.nc_file.proofs.window.Window.att.Goals as goal

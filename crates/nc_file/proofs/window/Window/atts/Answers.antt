@@ -1,6 +1,4 @@
-use Rattle.std.proofs.Common.{arith}
-use Rattle.nc_base.specs.Grammar.{att_after, strict}
-use Rattle.nc_file.proofs.Prelude.{err_from_is_err_and}
+use Rattle.nc_file.proofs.Prelude.{arith, err_from_is_err_and, att_after, strict}
 use Rattle.nc_file.proofs.PartRuns.{each-start, each-next, memory-err}
 use Rattle.nc_file.proofs.window.Window.atts.Goals as goal
 

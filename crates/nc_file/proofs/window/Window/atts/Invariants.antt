@@ -1,4 +1,4 @@
-use Rattle.nc_base.specs.Grammar.{att_after, strict}
+use Rattle.nc_file.proofs.Prelude.{att_after, strict}
 use Rattle.nc_file.proofs.PartRuns.{ReadsOn}
 use Rattle.nc_file.proofs.window.Window.atts.Given as goal
 

@@ -1,4 +1,4 @@
-use Rattle.std.proofs.Common.{refl}
+use Rattle.nc_file.proofs.Prelude.{refl}
 use Rattle.nc_file.proofs.Bytes.{took_byte}
 use Rattle.nc_file.proofs.window.Window.byte.Goals as goal
 

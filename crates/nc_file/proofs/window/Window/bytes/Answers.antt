@@ -1,5 +1,4 @@
-use Rattle.std.proofs.Common.{ℕ, length, arith, sym, subst}
-use Rattle.nc_file.proofs.Prelude.{err_from_is_err_and}
+use Rattle.nc_file.proofs.Prelude.{ℕ, length, arith, sym, subst, err_from_is_err_and}
 use Rattle.nc_file.proofs.Bytes.{Progress, on-by, chunk-next, read-content, stop-bytes}
 use Rattle.nc_file.proofs.window.Window.bytes.Goals as goal
 

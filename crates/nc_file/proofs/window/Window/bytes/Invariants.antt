@@ -1,5 +1,4 @@
-use Rattle.std.proofs.Common.{◌≡◌, ◌+◌, length, take}
-use Rattle.nc_file.proofs.Prelude.{OnTrue, left}
+use Rattle.nc_file.proofs.Prelude.{◌≡◌, ◌+◌, length, take, OnTrue, left}
 use Rattle.nc_file.proofs.Bytes.{Progress}
 use Rattle.nc_file.proofs.window.Window.bytes.Given as goal
 

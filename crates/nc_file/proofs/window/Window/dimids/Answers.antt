@@ -1,6 +1,4 @@
-use Rattle.std.proofs.Common.{List, Ok, ap, arith, length, rules, subst, sym, ℕ, ◌==◌}
-use Rattle.nc_base.specs.Grammar.{dimid_part, dimid_after}
-use Rattle.nc_file.proofs.Prelude.{err_from_is_err_and, Read}
+use Rattle.nc_file.proofs.Prelude.{List, Ok, ap, arith, length, rules, subst, sym, ℕ, ◌==◌, err_from_is_err_and, Read, dimid_part, dimid_after}
 use Rattle.nc_file.proofs.PartRuns.{each-start, each-next, memory-err, first-next}
 use Rattle.nc_file.proofs.window.Window.dimids.Goals as goal
 

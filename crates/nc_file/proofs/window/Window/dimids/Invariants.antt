@@ -1,5 +1,4 @@
-use Rattle.std.proofs.Common.{◌≡◌, length, ◌==◌}
-use Rattle.nc_base.specs.Grammar.{dimid_after}
+use Rattle.nc_file.proofs.Prelude.{◌≡◌, length, ◌==◌, dimid_after}
 use Rattle.nc_file.proofs.PartRuns.{ReadsOn}
 use Rattle.nc_file.proofs.window.Window.dimids.Given as goal
 

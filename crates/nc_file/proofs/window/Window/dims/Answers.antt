@@ -1,6 +1,4 @@
-use Rattle.std.proofs.Common.{Ok, ap, arith, rules, subst, sym}
-use Rattle.nc_base.specs.Grammar.{dim_part, dim_after, strict}
-use Rattle.nc_file.proofs.Prelude.{err_from_is_err_and, has_record_dim, Read}
+use Rattle.nc_file.proofs.Prelude.{Ok, ap, arith, rules, subst, sym, err_from_is_err_and, has_record_dim, Read, dim_part, dim_after, strict}
 use Rattle.nc_file.proofs.PartRuns.{each-start, each-next, memory-err, has_record-next}
 use Rattle.nc_file.proofs.window.Window.dims.Goals as goal
 

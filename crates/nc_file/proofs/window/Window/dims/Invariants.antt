@@ -1,6 +1,4 @@
-use Rattle.std.proofs.Common.{◌≡◌}
-use Rattle.nc_file.proofs.Prelude.{has_record_dim}
-use Rattle.nc_base.specs.Grammar.{dim_after, strict}
+use Rattle.nc_file.proofs.Prelude.{◌≡◌, has_record_dim, dim_after, strict}
 use Rattle.nc_file.proofs.PartRuns.{ReadsOn}
 use Rattle.nc_file.proofs.window.Window.dims.Given as goal
 

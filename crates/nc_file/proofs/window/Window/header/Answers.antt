@@ -1,5 +1,4 @@
-use Rattle.std.proofs.Common.{rules}
-use Rattle.nc_base.specs.Grammar.{header_by}
+use Rattle.nc_file.proofs.Prelude.{rules, header_by}
 use Rattle.nc_file.proofs.HeaderLen.{header-used}
 use Rattle.nc_file.proofs.PartRuns.{part_runs}
 use Rattle.nc_file.proofs.window.Window.header.Goals as goal

@@ -1,5 +1,4 @@
-use Rattle.std.proofs.Common.{rules}
-use Rattle.nc_base.specs.Grammar.{name_part}
+use Rattle.nc_file.proofs.Prelude.{rules, name_part}
 use Rattle.nc_file.proofs.HeaderLen.{name-used}
 use Rattle.nc_file.proofs.PartRuns.{part_runs}
 use Rattle.nc_file.proofs.window.Window.name.Goals as goal

@@ -1,4 +1,4 @@
-use Rattle.std.proofs.Common.{arith}
+use Rattle.nc_file.proofs.Prelude.{arith}
 use Rattle.nc_file.proofs.Bytes.{is_ready}
 use Rattle.nc_file.proofs.window.Window.ready.Goals as goal
 

@@ -1,5 +1,4 @@
-use Rattle.std.proofs.Common.{ℕ, arith}
-use Rattle.nc_file.proofs.Prelude.{err_from_is_err_and}
+use Rattle.nc_file.proofs.Prelude.{ℕ, arith, err_from_is_err_and}
 use Rattle.nc_file.proofs.Bytes.{passed-over, stop-ignored}
 use Rattle.nc_file.proofs.window.Window.skip_by_bytes.Goals as goal
 

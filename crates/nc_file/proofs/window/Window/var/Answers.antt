@@ -1,6 +1,4 @@
-use Rattle.std.proofs.Common.{rules}
-use Rattle.nc_base.specs.Grammar.{var_part}
-use Rattle.nc_base.specs.code.PartRuns.{printed_len}
+use Rattle.nc_file.proofs.Prelude.{rules, var_part, printed_len}
 use Rattle.nc_file.proofs.HeaderLen.{var-used}
 use Rattle.nc_file.proofs.PartRuns.{part_runs}
 use Rattle.nc_file.proofs.window.Window.var.Goals as goal

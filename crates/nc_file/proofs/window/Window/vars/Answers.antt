@@ -1,6 +1,4 @@
-use Rattle.std.proofs.Common.{Ok, ap, arith, rules, subst, sym}
-use Rattle.nc_base.specs.Grammar.{var_part, var_after, strict}
-use Rattle.nc_file.proofs.Prelude.{err_from_is_err_and, Read}
+use Rattle.nc_file.proofs.Prelude.{Ok, ap, arith, rules, subst, sym, err_from_is_err_and, Read, var_part, var_after, strict}
 use Rattle.nc_file.proofs.PartRuns.{each-start, each-next, memory-err}
 use Rattle.nc_file.proofs.Totals.{total_of, total_of-append}
 use Rattle.nc_file.proofs.window.Window.vars.Goals as goal

@@ -1,6 +1,5 @@
-use Rattle.std.proofs.Common.{◌≡◌}
+use Rattle.nc_file.proofs.Prelude.{◌≡◌, var_after, strict}
 use Rattle.nc_file.proofs.Totals.{total_of}
-use Rattle.nc_base.specs.Grammar.{var_after, strict}
 use Rattle.nc_file.proofs.PartRuns.{ReadsOn}
 use Rattle.nc_file.proofs.window.Window.vars.Given as goal
 

@@ -1,6 +1,4 @@
-use Rattle.nc_base.specs.Parts.{print}
-use Rattle.nc_base.specs.Grammar.{att_part, strict}
-use Rattle.nc_file.proofs.Prelude.{err_from_is_err_and, up-start, up-next, up-partway, each-left}
+use Rattle.nc_file.proofs.Prelude.{err_from_is_err_and, up-start, up-next, up-partway, each-left, att_part, strict, print}
 use Rattle.nc_file.proofs.write.attribute.put_atts.Goals as goal
 
 pub loop-att-init : goal.loop-att-init

@@ -1,7 +1,4 @@
-use Rattle.std.proofs.Common.{drop}
-use Rattle.nc_file.proofs.Prelude.{flat_map, UpTo}
-use Rattle.nc_base.specs.Parts.{print}
-use Rattle.nc_base.specs.Grammar.{att_part, strict}
+use Rattle.nc_file.proofs.Prelude.{drop, flat_map, UpTo, att_part, strict, print}
 use Rattle.nc_file.proofs.write.attribute.put_atts.Given as goal
 
 abbrev pub invariant-loop-att : goal.invariant-loop-att

@@ -1,5 +1,4 @@
-use Rattle.std.proofs.Common.{◌≡◌, ◌+◌, ◌*◌, ◌^◌, ◌<◌, ◌≤◌, ◌++◌, true, take, drop, All}
-use Rattle.nc_file.proofs.Prelude.{list_all, Var, slab_size, slab_limit, placed, is_below}
+use Rattle.nc_file.proofs.Prelude.{◌≡◌, ◌+◌, ◌*◌, ◌^◌, ◌<◌, ◌≤◌, ◌++◌, true, take, drop, All, list_all, Var, slab_size, slab_limit, placed, is_below}
 use Rattle.nc_file.proofs.write.begins.assign_begins.Given as goal
 
 abbrev pub invariant-loop-v : goal.invariant-loop-v

@@ -1,5 +1,4 @@
-use Rattle.std.proofs.Common.{◌≡◌, ◌*◌, ◌^◌, ◌≤◌, take}
-use Rattle.nc_file.proofs.Prelude.{padded_total, fixed_vars}
+use Rattle.nc_file.proofs.Prelude.{◌≡◌, ◌*◌, ◌^◌, ◌≤◌, take, padded_total, fixed_vars}
 use Rattle.nc_file.proofs.write.begins.fixed_slabs_len.Given as goal
 
 abbrev pub invariant-loop-var : goal.invariant-loop-var

@@ -1,5 +1,4 @@
-use Rattle.std.proofs.Common.{◌≡◌, sym, ◌∙◌, arith, true, length}
-use Rattle.nc_file.proofs.Prelude.{take_at, with_begins, fits, offset_too_large}
+use Rattle.nc_file.proofs.Prelude.{◌≡◌, sym, ◌∙◌, arith, true, length, take_at, with_begins, fits, offset_too_large}
 use Rattle.nc_file.proofs.BeginLaws.{placed-as-seen, header-placed, is_ok, is_err}
 use Rattle.nc_file.proofs.write.begins.with_begins.Goals as goal
 

@@ -1,7 +1,4 @@
-use Rattle.std.proofs.Common.{false}
-use Rattle.nc_base.specs.Parts.{print}
-use Rattle.nc_base.specs.Grammar.{dim_part, strict}
-use Rattle.nc_file.proofs.Prelude.{err_from_is_err_and, up-start, up-next, up-partway, each-left}
+use Rattle.nc_file.proofs.Prelude.{false, err_from_is_err_and, up-start, up-next, up-partway, each-left, dim_part, strict, print}
 use Rattle.nc_file.proofs.write.dimension.put_dims.Goals as goal
 
 pub loop-dim-init : goal.loop-dim-init

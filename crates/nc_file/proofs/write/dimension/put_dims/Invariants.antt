@@ -1,7 +1,4 @@
-use Rattle.std.proofs.Common.{drop, false}
-use Rattle.nc_file.proofs.Prelude.{flat_map, UpTo}
-use Rattle.nc_base.specs.Parts.{print}
-use Rattle.nc_base.specs.Grammar.{dim_part, strict}
+use Rattle.nc_file.proofs.Prelude.{drop, false, flat_map, UpTo, dim_part, strict, print}
 use Rattle.nc_file.proofs.write.dimension.put_dims.Given as goal
 
 abbrev pub invariant-loop-dim : goal.invariant-loop-dim

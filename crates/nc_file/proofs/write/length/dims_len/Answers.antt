@@ -1,4 +1,4 @@
-use Rattle.std.proofs.Common.{arith}
+use Rattle.nc_file.proofs.Prelude.{arith}
 use Rattle.nc_file.proofs.HeaderLen.{all-added, dims-len}
 use Rattle.nc_file.proofs.write.length.dims_len.Goals as goal
 

@@ -1,8 +1,5 @@
-use Rattle.std.proofs.Common.{◌≡◌, ◌+◌, ◌-◌, ◌^◌, min, take, false}
-use Rattle.nc_base.specs.Grammar.{dim_part, strict}
-use Rattle.nc_base.specs.code.PartRuns.{printed_len}
+use Rattle.nc_file.proofs.Prelude.{◌≡◌, ◌+◌, ◌-◌, ◌^◌, min, take, false, sum_by, dim_part, strict, printed_len}
 use Rattle.nc_file.proofs.HeaderLen.{count_bytes}
-use Rattle.nc_file.proofs.Prelude.{sum_by}
 use Rattle.nc_file.proofs.write.length.dims_len.Given as goal
 
 abbrev pub invariant-loop-dim : goal.invariant-loop-dim

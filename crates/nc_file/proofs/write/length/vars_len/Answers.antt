@@ -1,4 +1,4 @@
-use Rattle.std.proofs.Common.{[], arith}
+use Rattle.nc_file.proofs.Prelude.{[], arith}
 use Rattle.nc_file.proofs.HeaderLen.{all-added, vars-len}
 use Rattle.nc_file.proofs.write.length.vars_len.Goals as goal
 

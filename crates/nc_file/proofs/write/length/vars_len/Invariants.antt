@@ -1,8 +1,5 @@
-use Rattle.std.proofs.Common.{◌≡◌, ◌+◌, ◌-◌, ◌^◌, min, take, []}
-use Rattle.nc_base.specs.Grammar.{var_part, strict}
-use Rattle.nc_base.specs.code.PartRuns.{printed_len}
+use Rattle.nc_file.proofs.Prelude.{◌≡◌, ◌+◌, ◌-◌, ◌^◌, min, take, [], sum_by, var_part, strict, printed_len}
 use Rattle.nc_file.proofs.HeaderLen.{count_bytes}
-use Rattle.nc_file.proofs.Prelude.{sum_by}
 use Rattle.nc_file.proofs.write.length.vars_len.Given as goal
 
 abbrev pub invariant-loop-var : goal.invariant-loop-var

@@ -1,8 +1,4 @@
-use Rattle.std.proofs.Common.{get_or}
-use Rattle.nc_base.specs.Parts.{print}
-use Rattle.nc_base.specs.Grammar.{number}
-use Rattle.nc_base.specs.Versions.{count_width}
-use Rattle.nc_file.proofs.Prelude.{get_or_default, err_from_is_err_and, up-start, up-next, up-partway, each-left}
+use Rattle.nc_file.proofs.Prelude.{get_or, get_or_default, err_from_is_err_and, up-start, up-next, up-partway, each-left, number, print, count_width}
 use Rattle.nc_file.proofs.write.variable.put_dimids.Goals as goal
 
 pub loop-id-init : goal.loop-id-init

@@ -1,8 +1,4 @@
-use Rattle.std.proofs.Common.{drop}
-use Rattle.nc_file.proofs.Prelude.{flat_map, UpTo}
-use Rattle.nc_base.specs.Parts.{print}
-use Rattle.nc_base.specs.Grammar.{number}
-use Rattle.nc_base.specs.Versions.{count_width}
+use Rattle.nc_file.proofs.Prelude.{drop, flat_map, UpTo, number, print, count_width}
 use Rattle.nc_file.proofs.write.variable.put_dimids.Given as goal
 
 abbrev pub invariant-loop-id : goal.invariant-loop-id

@@ -1,6 +1,4 @@
-use Rattle.nc_base.specs.Parts.{print}
-use Rattle.nc_base.specs.Grammar.{var_part, strict}
-use Rattle.nc_file.proofs.Prelude.{err_from_is_err_and, up-start, up-next, up-partway, each-left}
+use Rattle.nc_file.proofs.Prelude.{err_from_is_err_and, up-start, up-next, up-partway, each-left, var_part, strict, print}
 use Rattle.nc_file.proofs.write.variable.put_vars.Goals as goal
 
 pub loop-var-init : goal.loop-var-init

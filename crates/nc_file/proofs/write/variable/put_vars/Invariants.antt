@@ -1,7 +1,4 @@
-use Rattle.std.proofs.Common.{drop}
-use Rattle.nc_file.proofs.Prelude.{flat_map, UpTo}
-use Rattle.nc_base.specs.Parts.{print}
-use Rattle.nc_base.specs.Grammar.{var_part, strict}
+use Rattle.nc_file.proofs.Prelude.{drop, flat_map, UpTo, var_part, strict, print}
 use Rattle.nc_file.proofs.write.variable.put_vars.Given as goal
 
 abbrev pub invariant-loop-var : goal.invariant-loop-var

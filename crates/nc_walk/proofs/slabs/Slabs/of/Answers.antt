@@ -1,5 +1,4 @@
-use Rattle.std.proofs.Common.{List, get_or, ◌∙◌, ap, if◌then◌else◌, arith}
-use Rattle.nc_walk.proofs.Prelude.{Dim, Var, slab_count, is_record_var}
+use Rattle.nc_walk.proofs.Prelude.{List, get_or, ◌∙◌, ap, if◌then◌else◌, arith, Dim, Var, slab_count, is_record_var}
 use Rattle.nc_walk.proofs.SlabSteps.{are_slabs, sized_slabs, same_slabs}
 use Rattle.nc_walk.proofs.slabs.Slabs.of.Goals as goal
 

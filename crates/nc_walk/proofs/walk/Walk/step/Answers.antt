@@ -1,5 +1,4 @@
-use Rattle.std.proofs.Common.{refl}
-use Rattle.nc_walk.specs.code.Slabs.{number_at}
+use Rattle.nc_walk.proofs.Prelude.{refl, number_at}
 use Rattle.nc_walk.proofs.OneRead.{none_left, steps, advanced}
 use Rattle.nc_walk.proofs.walk.Walk.step.Goals as goal
 

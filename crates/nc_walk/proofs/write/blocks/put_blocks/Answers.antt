@@ -1,5 +1,4 @@
-use Rattle.std.proofs.Common.{rules, length, ◌<◌, arith}
-use Rattle.nc_walk.proofs.Prelude.{err_from_is_err_and, up-start, up-next, up-partway}
+use Rattle.nc_walk.proofs.Prelude.{rules, length, ◌<◌, arith, err_from_is_err_and, up-start, up-next, up-partway}
 use Rattle.nc_walk.proofs.DataParts.{blocks-left}
 use Rattle.nc_walk.proofs.write.blocks.put_blocks.Goals as goal
 

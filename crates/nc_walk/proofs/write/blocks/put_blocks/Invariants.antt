@@ -1,5 +1,4 @@
-use Rattle.std.proofs.Common.{drop}
-use Rattle.nc_walk.proofs.Prelude.{filled_blocks, UpTo}
+use Rattle.nc_walk.proofs.Prelude.{drop, filled_blocks, UpTo}
 use Rattle.nc_walk.proofs.write.blocks.put_blocks.Given as goal
 
 abbrev pub invariant-loop-v : goal.invariant-loop-v

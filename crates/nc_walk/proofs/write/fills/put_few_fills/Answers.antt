@@ -1,4 +1,4 @@
-use Rattle.std.proofs.Common.{arith}
+use Rattle.nc_walk.proofs.Prelude.{arith}
 use Rattle.nc_walk.proofs.Repeats.{few-copies}
 use Rattle.nc_walk.proofs.write.fills.put_few_fills.Goals as goal
 

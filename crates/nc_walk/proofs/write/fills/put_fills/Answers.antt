@@ -1,4 +1,4 @@
-use Rattle.std.proofs.Common.{arith}
+use Rattle.nc_walk.proofs.Prelude.{arith}
 use Rattle.nc_walk.proofs.Repeats.{repeated-short}
 use Rattle.nc_walk.proofs.write.fills.put_fills.Goals as goal
 

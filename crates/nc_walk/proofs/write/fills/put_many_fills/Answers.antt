@@ -1,5 +1,4 @@
-use Rattle.std.proofs.Common.{◌≡◌, arith, ap, ◌∙◌}
-use Rattle.nc_walk.proofs.Prelude.{err_from_is_err_and, repeated, up-start, up-next, up-partway, up-all}
+use Rattle.nc_walk.proofs.Prelude.{◌≡◌, arith, ap, ◌∙◌, err_from_is_err_and, repeated, up-start, up-next, up-partway, up-all}
 use Rattle.nc_walk.proofs.Repeats.{next-piece, repeated-none}
 use Rattle.nc_walk.proofs.write.fills.put_many_fills.Goals as goal
 

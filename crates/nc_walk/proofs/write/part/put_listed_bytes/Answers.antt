@@ -1,5 +1,4 @@
-use Rattle.std.proofs.Common.{refl, arith, rules}
-use Rattle.nc_walk.proofs.Prelude.{err_from_is_err_and, up-start, up-next, up-partway}
+use Rattle.nc_walk.proofs.Prelude.{refl, arith, rules, err_from_is_err_and, up-start, up-next, up-partway}
 use Rattle.nc_walk.proofs.ListedRuns.{next-run, part-whole}
 use Rattle.nc_walk.proofs.write.part.put_listed_bytes.Goals as goal
 

@@ -1,5 +1,4 @@
-use Rattle.std.proofs.Common.{◌-◌, take, drop}
-use Rattle.devices.proofs.UpTo.{UpTo}
+use Rattle.nc_walk.proofs.Prelude.{◌-◌, take, drop, UpTo}
 use Rattle.nc_walk.proofs.write.part.put_listed_bytes.Given as goal
 
 abbrev pub invariant-loop-at : goal.invariant-loop-at

@@ -1,5 +1,4 @@
-use Rattle.std.proofs.Common.{ℕ, List, [], ◌++◌, take, replicate, refl, sym, ap, ◌∙◌, subst, arith}
-use Rattle.nc_walk.proofs.Prelude.{err_from_is_err_and, repeated, append-nil, FailedPartway, up-start, up-partway}
+use Rattle.nc_walk.proofs.Prelude.{ℕ, List, [], ◌++◌, take, replicate, refl, sym, ap, ◌∙◌, subst, arith, err_from_is_err_and, repeated, append-nil, FailedPartway, up-start, up-partway}
 use Rattle.nc_walk.proofs.ListedRuns.{run-pieces}
 use Rattle.devices.proofs.Writes.{appended_then, appended_partway}
 use Rattle.nc_walk.proofs.write.part.put_run.Goals as goal

@@ -1,5 +1,4 @@
-use Rattle.std.proofs.Common.{◌≡◌, ◌++◌, drop}
-use Rattle.nc_walk.specs.code.RecordSlabs.{record_slabs}
+use Rattle.nc_walk.proofs.Prelude.{◌≡◌, ◌++◌, drop, record_slabs}
 use Rattle.nc_walk.proofs.write.record_slab.record_slabs.Given as goal
 
 abbrev pub invariant-loop-v : goal.invariant-loop-v

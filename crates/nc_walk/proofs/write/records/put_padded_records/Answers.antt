@@ -1,5 +1,4 @@
-use Rattle.std.proofs.Common.{ℕ, List, map, arith, rules}
-use Rattle.nc_walk.proofs.Prelude.{err_from_is_err_and, filled_records, array_of, up-start, up-next, up-partway}
+use Rattle.nc_walk.proofs.Prelude.{ℕ, List, map, arith, rules, err_from_is_err_and, filled_records, array_of, up-start, up-next, up-partway}
 use Rattle.nc_walk.proofs.DataParts.{rows-left}
 use Rattle.nc_walk.proofs.write.records.put_padded_records.Goals as goal
 

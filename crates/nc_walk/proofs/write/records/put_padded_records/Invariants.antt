@@ -1,5 +1,4 @@
-use Rattle.std.proofs.Common.{ℕ, ◌-◌, map}
-use Rattle.nc_walk.proofs.Prelude.{flat_map, range_with_len, filled_records, array_of, UpTo}
+use Rattle.nc_walk.proofs.Prelude.{ℕ, ◌-◌, map, flat_map, range_with_len, filled_records, array_of, UpTo}
 use Rattle.nc_walk.proofs.write.records.put_padded_records.Given as goal
 
 abbrev pub invariant-loop-r : goal.invariant-loop-r

@@ -1,5 +1,4 @@
-use Rattle.std.proofs.Common.{drop, map}
-use Rattle.nc_walk.proofs.Prelude.{filled_records, array_of, UpTo}
+use Rattle.nc_walk.proofs.Prelude.{drop, map, filled_records, array_of, UpTo}
 use Rattle.nc_walk.proofs.write.records.put_record.Given as goal
 
 abbrev pub invariant-loop-slab : goal.invariant-loop-slab

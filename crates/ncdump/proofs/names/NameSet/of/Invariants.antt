@@ -1,5 +1,4 @@
-use Rattle.std.proofs.Common.{◌≡◌, ℕ, List, take}
-use Rattle.ncdump.proofs.Prelude.{list_any, bytes_eq, holds}
+use Rattle.ncdump.proofs.Prelude.{◌≡◌, ℕ, List, take, list_any, bytes_eq, holds}
 use Rattle.ncdump.proofs.names.NameSet.of.Given as goal
 
 -- the set has the names so far

@@ -1,5 +1,4 @@
-use Rattle.std.proofs.Common.{ℕ, List, ◌≡◌, ◌++◌, ◌-◌, ◌*◌, take, length, sym, ap, ◌∙◌, arith}
-use Rattle.nc_walk.proofs.Prelude.{take_all, err_from_is_err_and, filled_slabs, repeated, up-start, up-partway, up-then}
+use Rattle.nc_walk.proofs.Prelude.{ℕ, List, ◌≡◌, ◌++◌, ◌-◌, ◌*◌, take, length, sym, ap, ◌∙◌, arith, take_all, err_from_is_err_and, filled_slabs, repeated, up-start, up-partway, up-then}
 use Rattle.nc_walk.proofs.write.slab_writer.SlabWriter.put_records.Goals as goal
 
 pub returns-in_err-put_listed_bytes : goal.returns-in_err-put_listed_bytes

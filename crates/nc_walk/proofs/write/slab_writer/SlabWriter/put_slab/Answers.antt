@@ -1,5 +1,4 @@
-use Rattle.std.proofs.Common.{arith}
-use Rattle.nc_walk.proofs.Prelude.{length-take, length-drop, up-then}
+use Rattle.nc_walk.proofs.Prelude.{arith, length-take, length-drop, up-then}
 use Rattle.nc_walk.proofs.write.slab_writer.SlabWriter.put_slab.Goals as goal
 
 pub returns : goal.returns
