@@ -1,6 +1,5 @@
 -- What readers of parts do that list their fields: for a part that is one field, and for parts that are made of others.
-use Rattle.std.proofs.Common.{◌≡◌, ℕ, ◌-◌, Bool, true, false, cond, leb, nat_lt, List, [], ◌∷◌, ◌++◌, length, map, take, drop, Option, Some, None, Result, Ok, Err, refl, sym, inl, inr, ap, ◌∙◌, subst, arith, append_assoc}
-use Rattle.nc_fields.proofs.Prelude.{Ghosts, Bytes, Step, Part, done, bytes, decoded, under, chain, Outcome, and_then, with_rest, run, left_after, number, FormatFault, HeaderTruncated, Read, Reads, Kept, FailsOnly, left, next_of, source_of, HeadFault, Window, Format, OutOfMemory, ReadFailed, Entry, Content, Place, Reader, PendingField, Cut, Field, judged, fields, Seen, seen_by, steps_of, whole_content, cut_content, seen, Checked, Lists, IsStart, ListsCut, entry_of, listed, with_fault, OnTrue_at, OnTrue_from, le-ltb, lt-ltb, leb-true, leb-false, append-nil, length-drop, map-append, Width, byte_len, from_be_bytes, to_be_bytes, run-done, run-under, run-decoded, run-chain, left_after-ok, left_after-err, after-decoded, after-chain, shorter}
+use Rattle.nc_fields.proofs.Prelude.{Ghosts, Bytes, Step, Part, done, bytes, decoded, under, chain, Outcome, and_then, with_rest, run, left_after, number, FormatFault, HeaderTruncated, Read, Reads, Kept, FailsOnly, left, next_of, source_of, HeadFault, Window, Format, OutOfMemory, ReadFailed, Entry, Content, Place, Reader, PendingField, Cut, Field, judged, fields, Seen, seen_by, steps_of, whole_content, cut_content, seen, Checked, Lists, IsStart, ListsCut, entry_of, listed, with_fault, OnTrue_at, OnTrue_from, le-ltb, lt-ltb, leb-true, leb-false, append-nil, length-drop, map-append, Width, byte_len, from_be_bytes, to_be_bytes, run-done, run-under, run-decoded, run-chain, left_after-ok, left_after-err, after-decoded, after-chain, shorter, ◌≡◌, ℕ, ◌-◌, Bool, true, false, cond, leb, nat_lt, List, [], ◌∷◌, ◌++◌, length, map, take, drop, Option, Some, None, Result, Ok, Err, refl, sym, inl, inr, ap, ◌∙◌, subst, arith, append_assoc}
 
 -- ---- parts that are one field
 

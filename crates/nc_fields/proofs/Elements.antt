@@ -1,6 +1,5 @@
 -- Readers of the elements of a list, one after the other.
-use Rattle.std.proofs.Common.{◌≡◌, ℕ, suc, ◌+◌, ◌-◌, ◌<◌, ◌≤◌, List, [], ◌∷◌, ◌++◌, length, drop, Option, Result, Ok, Err, refl, sym, ap, subst, arith, length-append}
-use Rattle.nc_fields.proofs.Prelude.{Ghosts, Reader, HeadFault, Step, Part, done, chain, under, Checked, OutOfMemory, left, OnTrue_from, first, Item, each, shorter}
+use Rattle.nc_fields.proofs.Prelude.{Ghosts, Reader, HeadFault, Step, Part, done, chain, under, Checked, OutOfMemory, left, OnTrue_from, first, Item, each, shorter, ◌≡◌, ℕ, suc, ◌+◌, ◌-◌, ◌<◌, ◌≤◌, List, [], ◌∷◌, ◌++◌, length, drop, Option, Result, Ok, Err, refl, sym, ap, subst, arith, length-append}
 use Rattle.std.proofs.Math.Nat.{sub-zero}
 use Rattle.nc_fields.proofs.Checks.{chain_lists}
 

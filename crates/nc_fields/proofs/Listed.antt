@@ -1,6 +1,5 @@
 -- What a listing says of the bytes of a source.
-use Rattle.std.proofs.Common.{◌≡◌, ℕ, ◌+◌, List, [], length, map, Result, Ok, Err, IfOk, sym, ap, subst, arith, ◌∙◌}
-use Rattle.nc_fields.proofs.Prelude.{Ghosts, Reader, Header, HeadFault, Format, OutOfMemory, ReadFailed, Checked, source_of, left, OnTrue, OnTrue_at, OnTrue_from, lenient, Seen, seen, seen_by, listed, fields, Outcome, run, Kept, next_of, length-drop, header_by, Listing, ListFault}
+use Rattle.nc_fields.proofs.Prelude.{Ghosts, Reader, Header, HeadFault, Format, OutOfMemory, ReadFailed, Checked, source_of, left, OnTrue, OnTrue_at, OnTrue_from, lenient, Seen, seen, seen_by, listed, fields, Outcome, run, Kept, next_of, length-drop, header_by, Listing, ListFault, ◌≡◌, ℕ, ◌+◌, List, [], length, map, Result, Ok, Err, IfOk, sym, ap, subst, arith, ◌∙◌}
 use Rattle.nc_base.proofs.PartOutcomes.{Tells, tells}
 use Rattle.nc_fields.specs.Listings.{Blames, IsListing}
 use Rattle.nc_file.specs.code.Answers.{ReadUpTo}

@@ -1,6 +1,5 @@
 -- The fields that are one number.
-use Rattle.std.proofs.Common.{◌≡◌, ℕ, List, ◌∷◌, take, refl, ap, ◌∙◌}
-use Rattle.nc_fields.proofs.Prelude.{Bytes, number, Place, Number, number_in, IsNumeric, Step, Cut, steps_of, whole_content, cut_content, Version, byte_len, from_be_bytes, Magic, kept_letters, NumberWidth}
+use Rattle.nc_fields.proofs.Prelude.{Bytes, number, Place, Number, number_in, IsNumeric, Step, Cut, steps_of, whole_content, cut_content, Version, byte_len, from_be_bytes, Magic, kept_letters, NumberWidth, ◌≡◌, ℕ, List, ◌∷◌, take, refl, ap, ◌∙◌}
 use Rattle.nc_base.specs.declared.version.Version.TheVariants.{Cdf1, Cdf2, Cdf5}
 use Rattle.nc_base.specs.Versions.{count_width}
 use Rattle.nc_fields.specs.declared.entry.Content.TheVariants as content

@@ -1,6 +1,5 @@
 -- The fields that are bytes.
-use Rattle.std.proofs.Common.{ℕ, List, Result, Ok, Err, subst, sym, ap, arith, refl, slice_index}
-use Rattle.nc_fields.proofs.Prelude.{Ghosts, Window, HeadFault, Read, Outcome, left_after, OnTrue_at, OnTrue_from, IsHeld, Bytes, bytes, HeaderTruncated, Place, Number, IsFilling, ignored, Reader, Step, Checked, ends_with_nul, Owner, in_place}
+use Rattle.nc_fields.proofs.Prelude.{Ghosts, Window, HeadFault, Read, Outcome, left_after, OnTrue_at, OnTrue_from, IsHeld, Bytes, bytes, HeaderTruncated, Place, Number, IsFilling, ignored, Reader, Step, Checked, ends_with_nul, Owner, in_place, ℕ, List, Result, Ok, Err, subst, sym, ap, arith, refl, slice_index}
 use Rattle.nc_fields.specs.declared.entry.Content.TheVariants as content
 use Rattle.nc_fields.specs.declared.place.Owner.TheVariants as owner
 use Rattle.nc_fields.specs.declared.place.FieldName.TheVariants as name

@@ -1,6 +1,5 @@
 -- The order of blocks, and blocks that have been sorted by their begins.
-use Rattle.std.proofs.Common.{◌≡◌, suc, ◌≤◌, Bool, true, false, cond, List, [], ◌∷◌, filter, refl, sym, subst, arith, ◌⊎◌}
-use Rattle.nc_layout.proofs.Prelude.{Contains, AllPairs, AllPairs-filter, nat_tests, Block, Extent, is_listed_before, precedes}
+use Rattle.nc_layout.proofs.Prelude.{Contains, AllPairs, AllPairs-filter, nat_tests, Block, Extent, is_listed_before, precedes, ◌≡◌, suc, ◌≤◌, Bool, true, false, cond, List, [], ◌∷◌, filter, refl, sym, subst, arith, ◌⊎◌}
 use Rattle.std.specs.List.Sorted.{IsNonDecreasingBy, IsStableByKey, ties}
 use Rattle.std.specs.Ordering.{nat_cmp, is_lt}
 

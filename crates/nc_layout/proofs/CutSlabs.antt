@@ -1,6 +1,5 @@
 -- The first slab that isn't whole, part by part.
-use Rattle.std.proofs.Common.{◌≡◌, ℕ, zero, suc, ◌+◌, ◌*◌, ◌<◌, ◌≤◌, true, List, [], ◌∷◌, ◌++◌, length, get_or, map, filter, refl, sym, ap, arith, Option, Some, None, All, if◌then◌else◌, nat_lt}
-use Rattle.nc_layout.proofs.Prelude.{range_with_len, cases_lt, nat_tests, common_steps, filter-append, sum_by-append, take-append-drop, Slot, SlabPlace, record_slots, slab_in_record, record_size, IsSoundSlot, first_of, first_slab, is_cut, record_slab}
+use Rattle.nc_layout.proofs.Prelude.{range_with_len, cases_lt, nat_tests, common_steps, filter-append, sum_by-append, take-append-drop, Slot, SlabPlace, record_slots, slab_in_record, record_size, IsSoundSlot, first_of, first_slab, is_cut, record_slab, ◌≡◌, ℕ, zero, suc, ◌+◌, ◌*◌, ◌<◌, ◌≤◌, true, List, [], ◌∷◌, ◌++◌, length, get_or, map, filter, refl, sym, ap, arith, Option, Some, None, All, if◌then◌else◌, nat_lt}
 use Rattle.std.proofs.Math.Nat.{mul-le-mul_right}
 use Rattle.nc_layout.proofs.SlotLists.{rest-taken}
 

@@ -1,6 +1,5 @@
 -- A list in another order gives the same lists joined in another order.
-use Rattle.std.proofs.Common.{ℕ, zero, suc, ◌<◌, List, [], ◌∷◌, ◌++◌, length, get_or, set, arith, append_assoc}
-use Rattle.nc_layout.proofs.Prelude.{flat_map, IsPermutation, swap, IsPermutation-refl, IsPermutation-trans, IsPermutation-append_left, IsPermutation-append_right, IsPermutation-append_comm, IsPermutation-keeps}
+use Rattle.nc_layout.proofs.Prelude.{flat_map, IsPermutation, swap, IsPermutation-refl, IsPermutation-trans, IsPermutation-append_left, IsPermutation-append_right, IsPermutation-append_comm, IsPermutation-keeps, ℕ, zero, suc, ◌<◌, List, [], ◌∷◌, ◌++◌, length, get_or, set, arith, append_assoc}
 
 fronts_exchanged : {Y : Type 0} (a b c : List Y) → IsPermutation (a ++ (b ++ c)) (b ++ (a ++ c))
 fronts_exchanged {Y} a b c = simp append_assoc at (IsPermutation-append_left c (a ++ b) (b ++ a) (IsPermutation-append_comm a b))

@@ -1,6 +1,5 @@
 -- The slots of a header's variables: which have records, and how many bytes they take.
-use Rattle.std.proofs.Common.{◌≡◌, ℕ, ◌+◌, ◌<◌, ◌≤◌, Bool, List, [], ◌∷◌, ◌++◌, length, get_or, take, map, sum_by, refl, subst, arith, All, if◌then◌else◌}
-use Rattle.nc_layout.proofs.Prelude.{common_steps, take_more, get_or-map, length-map, All-push, sum-map, Dim, Header, Var, record_vars, padded_size, padded_total, slab_size, slab_limit, Slot, padded_slab, record_slots, IsSoundSlot, IsSoundLayout, slot_of, layout_of}
+use Rattle.nc_layout.proofs.Prelude.{common_steps, take_more, get_or-map, length-map, All-push, sum-map, Dim, Header, Var, record_vars, padded_size, padded_total, slab_size, slab_limit, Slot, padded_slab, record_slots, IsSoundSlot, IsSoundLayout, slot_of, layout_of, ◌≡◌, ℕ, ◌+◌, ◌<◌, ◌≤◌, Bool, List, [], ◌∷◌, ◌++◌, length, get_or, take, map, sum_by, refl, subst, arith, All, if◌then◌else◌}
 
 -- ---- the slots of a loop
 

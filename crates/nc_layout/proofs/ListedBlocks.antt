@@ -1,6 +1,5 @@
 -- The blocks of a file are listed in the order of the header, the records last.
-use Rattle.std.proofs.Common.{◌≡◌, ℕ, ◌+◌, ◌<◌, true, List, [], ◌∷◌, ◌++◌, length, get_or, arith, Option, Some, None}
-use Rattle.nc_layout.proofs.Prelude.{Contains, AllPairs, option_map_or, nat_tests, Contains-get_or, AllPairs-cons, Slot, FileLayout, Extent, records_begin, record_count, is_listed_before, each_slot, slot_block, fixed_block, records_block, blocks}
+use Rattle.nc_layout.proofs.Prelude.{Contains, AllPairs, option_map_or, nat_tests, Contains-get_or, AllPairs-cons, Slot, FileLayout, Extent, records_begin, record_count, is_listed_before, each_slot, slot_block, fixed_block, records_block, blocks, ◌≡◌, ℕ, ◌+◌, ◌<◌, true, List, [], ◌∷◌, ◌++◌, length, get_or, arith, Option, Some, None}
 use Rattle.std.proofs.lemmas.List.{append-nil}
 use Rattle.std.proofs.lemmas.List.Quantifiers.{all_pairs_push}
 use Rattle.nc_layout.specs.declared.finding.Block.TheVariants.{Var, Records}

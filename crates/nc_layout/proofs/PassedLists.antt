@@ -1,6 +1,5 @@
 -- What is kept of the slots that a loop has passed, one slot on.
-use Rattle.std.proofs.Common.{◌≡◌, ℕ, ◌+◌, ◌<◌, ◌≤◌, max, min, Bool, true, false, not, List, [], ◌∷◌, ◌++◌, length, get_or, drop, take, map, fold, filter, sum_by, count_by, refl, sym, ◌∙◌, ap, arith, Option, Some, ◌^◌, All, if◌then◌else◌, nat_lt, ◌==◌, ◌&&◌, is_some, slice_get}
-use Rattle.nc_layout.proofs.Prelude.{nat_tests, list_any, prefix_len, common_steps, fold-append, at_drop_more, take_more, map-append, length-take-le, filter-append, All-head, All-tail, position_or_len_push, sum_by-append, take-append-drop, ForSome, Slot, PassedSlots, padded_slab, is_fixed, record_slots, records_begin, IsSoundSlot, greatest_begin, fixed_slot_at, bytes_before, has_successor, order, HasPassed, passed_after, next_has_successor, is_record_slot, order_after}
+use Rattle.nc_layout.proofs.Prelude.{nat_tests, list_any, prefix_len, common_steps, fold-append, at_drop_more, take_more, map-append, length-take-le, filter-append, All-head, All-tail, position_or_len_push, sum_by-append, take-append-drop, ForSome, Slot, PassedSlots, padded_slab, is_fixed, record_slots, records_begin, IsSoundSlot, greatest_begin, fixed_slot_at, bytes_before, has_successor, order, HasPassed, passed_after, next_has_successor, is_record_slot, order_after, ◌≡◌, ℕ, ◌+◌, ◌<◌, ◌≤◌, max, min, Bool, true, false, not, List, [], ◌∷◌, ◌++◌, length, get_or, drop, take, map, fold, filter, sum_by, count_by, refl, sym, ◌∙◌, ap, arith, Option, Some, ◌^◌, All, if◌then◌else◌, nat_lt, ◌==◌, ◌&&◌, is_some, slice_get}
 use Rattle.std.proofs.lemmas.Option.{slice_get_within, get_or_from_slice_get}
 use Rattle.nc_layout.proofs.SweptBlocks.{greatest_from-ge}
 

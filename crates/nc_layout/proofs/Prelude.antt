@@ -16,6 +16,7 @@ pub use Rattle.nc_layout.specs.code.PassedSlots.{HasPassed, is_record_slot, next
 pub use Rattle.nc_layout.specs.code.Records.{least_with, slab_if}
 pub use Rattle.nc_layout.specs.code.Sweep.{end_of, findings_at, further, padding_end, reached_with, swept, value_end}
 pub use Rattle.nc_layout.specs.declared.{block_rules.Reached.Reached, blocks.Extent.Extent, file_end.SlabPlace.SlabPlace, finding.Block.Block, finding.LayoutFinding.LayoutFinding, slot.FileLayout.FileLayout, slot.Slot.Slot, slot_rules.PassedSlots.PassedSlots}
+pub use Rattle.std.proofs.Common.{All, Bool, Err, List, None, Ok, Option, Result, Some, [], ap, append-nil, append_assoc, arith, cond, count_by, drop, false, filter, fold, get_or, if◌then◌else◌, is_some, length, map, max, min, nat_lt, not, refl, rules, set, slice_get, subst, suc, sum_by, sym, take, true, zero, ℕ, ◌&&◌, ◌*◌, ◌++◌, ◌+◌, ◌<◌, ◌==◌, ◌^◌, ◌∙◌, ◌∷◌, ◌≡◌, ◌≤◌, ◌⊎◌}
 pub use Rattle.std.proofs.Math.ListN.{take-append-drop}
 pub use Rattle.std.proofs.lemmas.Bool.{cases_lt, leb-true}
 pub use Rattle.std.proofs.lemmas.Bool.Decides.{nat_tests}

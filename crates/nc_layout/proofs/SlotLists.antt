@@ -1,6 +1,5 @@
 -- What is left of a list of slots in a loop, one slot on.
-use Rattle.std.proofs.Common.{◌≡◌, ℕ, ◌+◌, ◌<◌, ◌≤◌, min, Bool, true, List, [], ◌∷◌, length, get_or, drop, map, fold, sum_by, refl, ap, arith, Option, Some, None, ◌^◌}
-use Rattle.nc_layout.proofs.Prelude.{common_steps, sum_by-cons, sum_by-le-sum_by, Slot, padded_slab, is_sole_narrow, record_slots, slab_in_record, record_size, records_begin, least, least_with, slab_if}
+use Rattle.nc_layout.proofs.Prelude.{common_steps, sum_by-cons, sum_by-le-sum_by, Slot, padded_slab, is_sole_narrow, record_slots, slab_in_record, record_size, records_begin, least, least_with, slab_if, ◌≡◌, ℕ, ◌+◌, ◌<◌, ◌≤◌, min, Bool, true, List, [], ◌∷◌, length, get_or, drop, map, fold, sum_by, refl, ap, arith, Option, Some, None, ◌^◌}
 
 -- the record slots from index i on
 abbrev pub rest : List Slot → ℕ → List Slot

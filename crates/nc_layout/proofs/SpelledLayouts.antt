@@ -1,6 +1,5 @@
 -- A header that bytes spell, by whatever rules, has a sound layout.
-use Rattle.std.proofs.Common.{◌≡◌, ℕ, zero, suc, ◌+◌, ◌^◌, ◌<◌, ◌≤◌, Bool, true, List, [], ◌∷◌, ◌++◌, length, sym, subst, append_assoc, append-nil, arith, if◌then◌else◌, Result, Ok, Err, All}
-use Rattle.nc_layout.proofs.Prelude.{common_steps, leb-true, nat_tests, All-nil, All-cons, All-append, All-map, FormatFault, Dim, Var, Header, Version, record_limit, record_vars, padded_total, IsSoundSlot, IsSoundLayout, slot_of, layout_of}
+use Rattle.nc_layout.proofs.Prelude.{common_steps, leb-true, nat_tests, All-nil, All-cons, All-append, All-map, FormatFault, Dim, Var, Header, Version, record_limit, record_vars, padded_total, IsSoundSlot, IsSoundLayout, slot_of, layout_of, ◌≡◌, ℕ, zero, suc, ◌+◌, ◌^◌, ◌<◌, ◌≤◌, Bool, true, List, [], ◌∷◌, ◌++◌, length, sym, subst, append_assoc, append-nil, arith, if◌then◌else◌, Result, Ok, Err, All}
 use Rattle.nc_base.specs.Bytes.{Bytes}
 use Rattle.nc_base.specs.Headers.{IsDimid, AreDimids}
 use Rattle.nc_base.specs.Parts.{Part, Spells}
@@ -11,14 +10,14 @@ use Rattle.nc_base.proofs.Tests.{and_parts}
 use Rattle.nc_layout.proofs.HeaderSlots.{record_slots-total}
 
 -- a test that was passed
-passed : {A : Type 0} (b : Bool) (x y : A) (wrong : FormatFault) → ◌≡◌ {A = Result A FormatFault} (if b then Ok x else Err wrong) (Ok y)
+pub passed : {A : Type 0} (b : Bool) (x y : A) (wrong : FormatFault) → ◌≡◌ {A = Result A FormatFault} (if b then Ok x else Err wrong) (Ok y)
     → (b ≡ true) × (x ≡ y)
 passed v0 x y wrong e = grind arith
 
 -- ---- lists
 
 -- what holds of no elements, and of one more than it held of, holds of all
-each-keeps : {A : Type 0} (element : List A → Part A) (P : List A → Type 0)
+pub each-keeps : {A : Type 0} (element : List A → Part A) (P : List A → Type 0)
     → ((before : List A) (from : Bytes) (x : A) (rest : Bytes) → Spells (element before) from x rest → P before → P (before ++ x ∷ []))
     → (n : ℕ) (before : List A) (from : Bytes) (all : List A) (rest : Bytes) → Spells (each element n before) from all rest → P before
     → P all

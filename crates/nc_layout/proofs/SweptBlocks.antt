@@ -1,6 +1,5 @@
 -- One pass over the blocks in their order finds what the definition says of each block.
-use Rattle.std.proofs.Common.{◌≡◌, ℕ, ◌<◌, ◌≤◌, max, Bool, true, false, not, List, [], ◌∷◌, ◌++◌, get_or, map, fold, filter, refl, sym, ◌∙◌, ap, subst, arith, Option, Some, None, ◌==◌, ◌⊎◌, append_assoc}
-use Rattle.nc_layout.proofs.Prelude.{flat_map, IsPermutation, Contains, find, list_any, cases_lt, nat_tests, Contains-get_or, Contains-append_left, Contains-append_cases, Contains-push, Contains-push_cases, list_any_none, list_any_at, Contains-permutation, IsPermutation-sym, LayoutFinding, Extent, Reached, precedes, before, value_end, padding_end, further, reached_with, end_of, findings_at, swept}
+use Rattle.nc_layout.proofs.Prelude.{flat_map, IsPermutation, Contains, find, list_any, cases_lt, nat_tests, Contains-get_or, Contains-append_left, Contains-append_cases, Contains-push, Contains-push_cases, list_any_none, list_any_at, Contains-permutation, IsPermutation-sym, LayoutFinding, Extent, Reached, precedes, before, value_end, padding_end, further, reached_with, end_of, findings_at, swept, ◌≡◌, ℕ, ◌<◌, ◌≤◌, max, Bool, true, false, not, List, [], ◌∷◌, ◌++◌, get_or, map, fold, filter, refl, sym, ◌∙◌, ap, subst, arith, Option, Some, None, ◌==◌, ◌⊎◌, append_assoc}
 use Rattle.nc_layout.specs.BlockRules.{greatest_end, first_block, first_at_end, findings_after, block_findings}
 use Rattle.nc_layout.proofs.BlockOrder.{precedes-asym, precedes-irrefl, Ascending, contains-here, contains-there, contains-cases, contains-none, contains-filter, filter-contains}
 use Rattle.nc_layout.proofs.FlatPermutation.{flat_map-IsPermutation}

@@ -1,6 +1,5 @@
 -- Lists of fields with their indices, one field on.
-use Rattle.std.proofs.Common.{◌≡◌, ℕ, ◌+◌, ◌-◌, ◌<◌, ◌≤◌, List, [], ◌∷◌, ◌++◌, length, get_or, drop, take, ap, sym, ◌∙◌, arith, Option}
-use Rattle.nc_report.proofs.Prelude.{at_drop_more, take_more, length-take-le, IsPermutation-refl, IsPermutation-trans, IsPermutation-append_left, IsPermutation-append_comm, IsPermutation, option_to_list, Entry, Finding, Indexed, field_at, indexed, indexed_from, each_before, ahead_of, ahead_with, each_backward}
+use Rattle.nc_report.proofs.Prelude.{at_drop_more, take_more, length-take-le, IsPermutation-refl, IsPermutation-trans, IsPermutation-append_left, IsPermutation-append_comm, IsPermutation, option_to_list, Entry, Finding, Indexed, field_at, indexed, indexed_from, each_before, ahead_of, ahead_with, each_backward, ◌≡◌, ℕ, ◌+◌, ◌-◌, ◌<◌, ◌≤◌, List, [], ◌∷◌, ◌++◌, length, get_or, drop, take, ap, sym, ◌∙◌, arith, Option}
 
 -- the fields from index i on are the one there, and those after it
 pub rest : {A : Type 0} (f : List Indexed → A) (es : List Entry) (i : ℕ) (d : Entry) → i < length es

@@ -1,6 +1,5 @@
 -- Names of lists in a map, and the first fields that are they.
-use Rattle.std.proofs.Common.{◌≡◌, ℕ, Bool, true, false, if◌then◌else◌, ◌&&◌, ◌==◌, List, [], ◌∷◌, ◌++◌, refl, arith, Option, Some, None, Bor}
-use Rattle.nc_report.proofs.Prelude.{slice_cmp, bytes_decides, option_map_or, option_or, Ordering, is_eq, nat_cmp, ordering_then, NameScope, Indexed, NameKey, is_same_key, is_same_list, is_first, key_of, has_key, first_index, FirstNames, HasFirst, hash, index_if, is_first_of, is_key_of}
+use Rattle.nc_report.proofs.Prelude.{slice_cmp, bytes_decides, option_map_or, option_or, Ordering, is_eq, nat_cmp, ordering_then, NameScope, Indexed, NameKey, is_same_key, is_same_list, is_first, key_of, has_key, first_index, FirstNames, HasFirst, hash, index_if, is_first_of, is_key_of, ◌≡◌, ℕ, Bool, true, false, if◌then◌else◌, ◌&&◌, ◌==◌, List, [], ◌∷◌, ◌++◌, refl, arith, Option, Some, None, Bor}
 use Rattle.std.specs.BTreeMap.{BTreeMap, Updates, is_at}
 use Rattle.std.specs.Map.{lookup}
 use Rattle.std.proofs.lemmas.Grind.{common_steps}

@@ -21,6 +21,7 @@ pub use Rattle.nc_report.specs.code.FirstNames.{HasFirst, hash, index_if, index_
 pub use Rattle.nc_report.specs.code.Passes.{ahead_with, each_backward}
 pub use Rattle.nc_report.specs.code.WholeHeaders.{HasSoundLayout, HoldsNumbers, found_at_number, located_number, number_field, vsize_fact, vsize_facts}
 pub use Rattle.nc_report.specs.declared.{ahead.Ahead.Ahead, ahead.NumberField.NumberField, ahead.ValuesAt.ValuesAt, finding.Fact.Fact, finding.Finding.Finding, kind.Kind.Kind, names.FirstNames.FirstNames, names.NameScope.NameScope, number_fields.NumberFields.NumberFields}
+pub use Rattle.std.proofs.Common.{Bool, Bor, Err, IsTrue, List, None, Ok, OnOk, Option, Result, Some, SomeIff, [], ap, append_assoc, ap₂, arith, cond, drop, false, get_or, if◌then◌else◌, length, map, not, refl, rules, slice_get, subst, suc, sym, take, true, zero, ℕ, ◌&&◌, ◌++◌, ◌+◌, ◌-◌, ◌<◌, ◌==◌, ◌^◌, ◌↔◌, ◌∙◌, ◌∷◌, ◌≡◌, ◌≤◌}
 pub use Rattle.std.proofs.lemmas.Bool.{OnTrue_at, OnTrue_from, and_parts, false_from_ne_true}
 pub use Rattle.std.proofs.lemmas.Cmp.{nat_cmp_total, on_total, then_total, tied_itself}
 pub use Rattle.std.proofs.lemmas.List.{append-nil, at_drop_more, length-take-le, take_more}

@@ -1,6 +1,5 @@
 -- What a report says of a listing.
-use Rattle.std.proofs.Common.{ℕ, ◌++◌, Bool, List, Option, Result, Ok, Err, sym, subst}
-use Rattle.nc_report.proofs.Prelude.{IsPermutation, AllPairs, IsTotalOrder, options_total, nat_cmp_total, on_total, then_total, IsPermutation-trans, IsPermutation-append_left, OnTrue, OnTrue_at, OnTrue_from, Header, FormatFault, Listing, IsSoundLayout, layout_of, Fact, Finding, Kind, header_findings, whole_findings, all_findings, finding_cmp, IsInOrder, IsReport, HasSoundLayout}
+use Rattle.nc_report.proofs.Prelude.{IsPermutation, AllPairs, IsTotalOrder, options_total, nat_cmp_total, on_total, then_total, IsPermutation-trans, IsPermutation-append_left, OnTrue, OnTrue_at, OnTrue_from, Header, FormatFault, Listing, IsSoundLayout, layout_of, Fact, Finding, Kind, header_findings, whole_findings, all_findings, finding_cmp, IsInOrder, IsReport, HasSoundLayout, ℕ, ◌++◌, Bool, List, Option, Result, Ok, Err, sym, subst}
 use Rattle.nc_base.specs.Bytes.{Bytes}
 use Rattle.nc_fields.specs.Lenient.{lenient}
 use Rattle.nc_fields.specs.Listings.{IsListing, IsOutcome}

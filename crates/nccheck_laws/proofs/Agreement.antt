@@ -1,6 +1,5 @@
 -- A strict and a lenient reader of a part agree, up to the first field that the strict rules refuse.
-use Rattle.std.proofs.Common.{◌≡◌, ℕ, suc, zero, ◌<◌, Bool, true, false, leb, List, [], ◌∷◌, ◌++◌, length, map, take, drop, Option, Some, None, Result, Ok, Err, refl, sym, subst, arith}
-use Rattle.nccheck_laws.proofs.Prelude.{FormatFault, Bytes, Step, Part, done, under, chain, Item, Outcome, and_then, run, Field, fields, each, refusal_in, first_refusal, whole_content, fault_in, common_steps, le-ltb, lt-ltb, leb-true, leb-false, map-append, length-map}
+use Rattle.nccheck_laws.proofs.Prelude.{option_or, FormatFault, Bytes, Step, Part, done, under, chain, Item, Outcome, and_then, run, Field, fields, each, refusal_in, first_refusal, whole_content, fault_in, common_steps, le-ltb, lt-ltb, leb-true, leb-false, map-append, length-map, ◌≡◌, ℕ, suc, zero, ◌<◌, Bool, true, false, leb, List, [], ◌∷◌, ◌++◌, length, map, take, drop, Option, Some, None, Result, Ok, Err, refl, sym, subst, arith}
 use Rattle.nccheck_laws.proofs.Leaves.{is_leaf, leaf_size, leaf_cut, judge, read_bytes, leaf-run, leaf-field}
 
 -- ---- outcomes
@@ -42,10 +41,7 @@ read-agrees : {A B : Type 0} (f : A → B) (steps : List Step) (n : ℕ) (cut : 
     → let o = read_bytes b (drop n from) cut x in
     let r = read_bytes b (drop n from) cut y in
     Agrees f o r (field_with steps from n (fault_in o) ∷ []) (field_with steps from n (fault_in r) ∷ [])
-read-agrees f steps n cut from (Ok x) (Ok y) true e judges = let t = le-ltb _ _ (leb-true _ _ e) in grind arith
-read-agrees f steps n cut from (Ok x) (Err d) true e judges = judges
-read-agrees f steps n cut from (Err c) (Ok y) true e judges = let t = le-ltb _ _ (leb-true _ _ e) in grind arith
-read-agrees f steps n cut from (Err c) (Err d) true e judges = let t = le-ltb _ _ (leb-true _ _ e) in grind arith
+read-agrees f steps n cut from v5 v6 true e judges = let t = le-ltb _ _ (leb-true _ _ e) in grind arith
 read-agrees f steps n cut from x y false e judges = let t = lt-ltb _ _ (leb-false _ _ e) in grind (arith, drop-short)
 
 pub agree-leaf : {A B : Type 0} {f : A → B} {steps : List Step} {p : Part A} {q : Part B}
@@ -85,20 +81,14 @@ agree-under step a = record { at = λ from. a.at from }
 abbrev pub first_of : Field → Option FormatFault → Option (FormatFault × Bytes) → Option (FormatFault × Bytes)
 first_of f o others = elim o [ Some fault ↦ Some (fault, drop f.size f.start) | None ↦ others ]
 
-refused-later : (fs more : List Field) → first_refusal fs ≡ None → first_refusal (fs ++ more) ≡ first_refusal more
-refused-later [] more none = refl
-refused-later (f ∷ fs) more none = grind (arith, refused-later fs more)
-
-refused-already : (fs more : List Field) (e : FormatFault × Bytes) → first_refusal fs ≡ Some e → first_refusal (fs ++ more) ≡ Some e
-refused-already [] more e is = absurd cc
-refused-already (f ∷ fs) more e is = grind (arith, refused-already fs more e)
+refused-append : (fs more : List Field) → first_refusal (fs ++ more) ≡ option_or (first_refusal fs) (first_refusal more)
+refused-append [] more = refl
+refused-append (f ∷ fs) more = grind (arith, refused-append fs more)
 
 -- after fields that aren't refused
 after-agrees : {A B : Type 0} (f : A → B) (before fs gs : List Field) (o : Outcome A) (r : Outcome B) → first_refusal before ≡ None
     → Agrees f o r fs gs → Agrees f o r (before ++ fs) (before ++ gs)
-after-agrees f before fs gs (Ok x) (Ok y) none agrees = grind (arith, refused-later)
-after-agrees f before fs gs (Ok x) (Err e) none agrees = agrees
-after-agrees f before fs gs (Err e) r none agrees = grind (arith, refused-later)
+after-agrees f before fs gs v4 v5 none agrees = grind (arith, refused-append)
 
 -- a part and what follows it, whose fields come after those of the part
 then-agrees : {A B C D : Type 0} (f : A → B) (g : C → D) (fs gs : List Field) (o : Outcome A) (r : Outcome B)
@@ -111,7 +101,7 @@ then-agrees f g fs gs (Ok x) (Ok y) next other more also (same, along, none, fie
     rw (same, along, fields) (after-agrees g fs (more x.0 x.1) (also (f x.0) x.1) (next x.0 x.1) (other (f x.0) x.1)
     (subst (λ fs. first_refusal fs ≡ None) fields none) (go x.0 x.1))
 then-agrees f g fs gs (Ok x) (Err e) next other more also never go = absurd never
-then-agrees f g fs gs (Err e) (Ok y) next other more also is go = refused-already gs (also y.0 y.1) e is
+then-agrees f g fs gs (Err e) (Ok y) next other more also is go = grind (arith, refused-append)
 then-agrees f g fs gs (Err e) (Err d) next other more also is go = is
 
 pub agree-chain : {A B C D : Type 0} {f : A → B} {g : C → D} {steps : List Step} {get : C → Option A}

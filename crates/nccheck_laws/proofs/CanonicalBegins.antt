@@ -1,6 +1,5 @@
 -- If nothing is found at the begins, each slot begins where a generated file has it.
-use Rattle.std.proofs.Common.{◌≡◌, ℕ, zero, suc, ◌+◌, ◌<◌, ◌≤◌, max, true, length, take, filter, arith, Some}
-use Rattle.nccheck_laws.proofs.Prelude.{Contains, cases_lt, nat_tests, slice_get_within, Slot, FileLayout, Extent, padded_slab, is_fixed, records_begin, record_count, slot_block, records_block, blocks, before, precedes, greatest_begin, bytes_before, slot_findings, greatest_end, block_findings, padding_end, greatest_from-above, is_of_begin, FindsNone, fixed_bytes, canonical_begin, QuietBeginsAreCanonical}
+use Rattle.nccheck_laws.proofs.Prelude.{Contains, cases_lt, nat_tests, slice_get_within, Slot, FileLayout, Extent, padded_slab, is_fixed, records_begin, record_count, slot_block, records_block, blocks, before, precedes, greatest_begin, bytes_before, slot_findings, greatest_end, block_findings, padding_end, greatest_from-above, is_of_begin, FindsNone, fixed_bytes, canonical_begin, QuietBeginsAreCanonical, ◌≡◌, ℕ, zero, suc, ◌+◌, ◌<◌, ◌≤◌, max, true, length, take, filter, arith, Some}
 use Rattle.nccheck_laws.proofs.FoundNone.{quiet-slot, quiet-block}
 use Rattle.nccheck_laws.proofs.IndexedSlots.{At, at-filtered, total-below}
 use Rattle.nccheck_laws.proofs.LayoutBlocks.{each-block, fixed-there, records-there, fixed_place, all-place, before-le, place-reached, begin-ge, first_begin, begins}

@@ -1,7 +1,6 @@
 -- Where slots and blocks end if each slot begins in its canonical place; so a file without findings at begins and at its end has the
 -- length of a generated one.
-use Rattle.std.proofs.Common.{◌≡◌, ℕ, zero, suc, ◌+◌, ◌-◌, ◌*◌, ◌<◌, ◌≤◌, true, length, filter, subst, arith, Option, Some, IfSome, max, refl}
-use Rattle.nccheck_laws.proofs.Prelude.{Contains, cases_lt, lt-ltb, nat_tests, slice_get_within, Slot, FileLayout, Extent, padded_slab, is_fixed, slab_in_record, record_size, records_begin, record_count, slot_block, records_block, blocks, has_values, bytes_before, used_end, end_findings, IsSoundSlot, IsSoundLayout, is_record_slot, contains-filter, greatest_from-ge, greatest_from-above, greatest_from-least, fixed_bytes, is_of_end, canonical_begin, HasCanonicalBegins, canonical_len, QuietLengthIsCanonical}
+use Rattle.nccheck_laws.proofs.Prelude.{Contains, cases_lt, lt-ltb, nat_tests, slice_get_within, Slot, FileLayout, Extent, padded_slab, is_fixed, slab_in_record, record_size, records_begin, record_count, slot_block, records_block, blocks, has_values, bytes_before, used_end, end_findings, IsSoundSlot, IsSoundLayout, is_record_slot, contains-filter, greatest_from-ge, greatest_from-above, greatest_from-least, fixed_bytes, is_of_end, canonical_begin, HasCanonicalBegins, canonical_len, QuietLengthIsCanonical, ◌≡◌, ℕ, zero, suc, ◌+◌, ◌-◌, ◌*◌, ◌<◌, ◌≤◌, true, length, filter, subst, arith, Option, Some, IfSome, max, refl}
 use Rattle.nc_layout.specs.FileEnd.{padding_end}
 use Rattle.nccheck_laws.proofs.IndexedSlots.{At, all-at, total-below, total-whole, total-reach, slab-fits, part-le}
 use Rattle.nccheck_laws.proofs.LayoutBlocks.{each-block, fixed-there, records-there, fixed_place, all-place, records_end-above, records_end-le, first_begin, begins, begin-is}

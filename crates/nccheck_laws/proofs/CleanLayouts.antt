@@ -1,7 +1,5 @@
 -- A report finds nothing at begins and at the end of a generated file.
-use Rattle.std.proofs.Common.{arith, ◌≡◌, ℕ, ◌+◌, Bool, List, [], ◌∷◌, ◌++◌, length, sym, ap, ◌∙◌}
-use Rattle.nccheck_laws.proofs.Prelude.{common_steps, All-nil, All-cons, Att, Header, Var, Bytes, SpellsHeader, strict, spelled-layout, LayoutFact, All-head, All-tail, Dataset, Known, Fits, begin_after, data_of, vars_with_begins, file_of, with_begins, header_spelling, IsName, AreArrays, IsGood, HasValidNames, bare, bare-after, sound-after, printed, header-printable, is_of_begin, is_of_end, is_of_layout, GeneratedFilesHaveQuietLayouts}
-use Rattle.std.specs.List.{All}
+use Rattle.nccheck_laws.proofs.Prelude.{common_steps, All-nil, All-cons, Att, Header, Var, Bytes, SpellsHeader, strict, spelled-layout, LayoutFact, All-head, All-tail, Dataset, Known, Fits, begin_after, data_of, vars_with_begins, file_of, with_begins, header_spelling, IsName, AreArrays, IsGood, HasValidNames, bare, bare-after, sound-after, printed, header-printable, is_of_begin, is_of_end, is_of_layout, GeneratedFilesHaveQuietLayouts, arith, ◌≡◌, ℕ, ◌+◌, Bool, List, [], ◌∷◌, ◌++◌, length, sym, ap, ◌∙◌, All}
 use Rattle.nccheck_laws.proofs.CanonicalLayouts.{generated-quiet as layouts-quiet}
 use Rattle.nccheck_laws.proofs.LayoutFacts.{of-layout, read-tells}
 

@@ -1,6 +1,5 @@
 -- Among the facts of an entry that the strict rules refuse is the fault with which they do, but for a floating type.
-use Rattle.std.proofs.Common.{◌≡◌, ℕ, ◌==◌, Bool, true, false, cond, List, [], ◌∷◌, ◌++◌, length, take, Option, Some, None, refl, sym, ◌∙◌, arith}
-use Rattle.nccheck_laws.proofs.Prelude.{Contains, FormatFault, BadCount, FloatingType, Entry, Content, FieldName, Owner, name_steps, owner_steps, refusal_in, Fact, facts_with, Length, bytes_eq, Fault, is_floating_in, NotNetcdf, hdf5_signature, Hdf5, Gzip, EmptyFile, gzip_signature, fault_fact, is_large_count, strict_fault}
+use Rattle.nccheck_laws.proofs.Prelude.{FormatFault, BadCount, FloatingType, Entry, Content, FieldName, Owner, name_steps, owner_steps, refusal_in, Fact, facts_with, Length, bytes_eq, Fault, is_floating_in, NotNetcdf, hdf5_signature, Hdf5, Gzip, EmptyFile, gzip_signature, fault_fact, is_large_count, strict_fault, ◌≡◌, ℕ, ◌==◌, Bool, true, false, cond, List, [], ◌∷◌, ◌++◌, length, take, Option, Some, None, refl, sym, ◌∙◌, arith}
 use Rattle.nc_fields.specs.declared.entry.Content.TheVariants as content
 use Rattle.nc_fields.specs.declared.place.FieldName.TheVariants as name
 use Rattle.nccheck_laws.proofs.Refusals.{refusal_of}
@@ -17,9 +16,6 @@ pub quiet-type : (e : Entry) → refusal_of e ≡ None → is_floating_in e.plac
 quiet-type e none = grind arith
 
 -- ---- the facts of a refused entry
-
-pub contains-first : {X : Type 0} (x : X) (xs : List X) → Contains (x ∷ xs) x
-contains-first x xs = (0, omega arith, refl)
 
 -- a field's fault, or what stands at the start of a file in place of `CDF`
 pub fault-fact : (P : Fact → Type 0) (fault : FormatFault) (c : Content) → P Hdf5 → P Gzip → P EmptyFile → P (Fault fault) → P (fault_fact fault c)

@@ -1,15 +1,12 @@
 -- The first fault of a report is that of the first entry that the strict rules refuse.
-use Rattle.std.proofs.Common.{◌-◌, min, ◌≡◌, ◌==◌, ◌&&◌, ℕ, ◌+◌, ◌≤◌, ◌⊎◌, inl, inr, Bool, true, false, List, [], ◌∷◌, ◌++◌, length, map, flat_map, Option, Some, None, refl, sym, ap, ◌∙◌, subst, arith, le_refl}
-use Rattle.nccheck_laws.proofs.Prelude.{nat_tests, list_any, list_any-append, list_any-IsPermutation, Contains, All-cons, Contains-append_right, FormatFault, FloatingType, Bytes, header_part, header_by, run, Entry, lenient, first_refusal, header_fields, Fact, Finding, Report, Indexed, field_at, indexed_from, indexed, finding, facts_of, findings_at, field_findings, floating_findings, header_findings, whole_findings, name_findings, attribute_findings, all_findings, IsReport, is_fault, All-contains, All-permutation, left_after, is_floating_in, floating_finding, is_eq, tied_itself, All-head, All-tail, Contains-append_cases, Any-from_list_any, strict_fault, HasNoFault, IsReadable, FindsFirst, FaultlessHeadersAreReadable, FirstFaultIsReaders}
-use Rattle.std.specs.List.{All}
-use Rattle.std.specs.Option.{option_to_list}
+use Rattle.nccheck_laws.proofs.Prelude.{nat_tests, list_any, list_any-append, list_any-IsPermutation, Contains, All-cons, Contains-append_right, FormatFault, FloatingType, Bytes, header_part, header_by, run, Entry, lenient, first_refusal, header_fields, Fact, Finding, Report, Indexed, field_at, indexed_from, finding, facts_of, findings_at, field_findings, floating_findings, header_findings, all_findings, IsReport, is_fault, All-contains, All-permutation, left_after, is_floating_in, floating_finding, is_eq, tied_itself, All-head, All-tail, Contains-append_cases, Any-from_list_any, strict_fault, HasNoFault, IsReadable, FindsFirst, FaultlessHeadersAreReadable, FirstFaultIsReaders, ◌-◌, min, ◌≡◌, ◌==◌, ◌&&◌, ℕ, ◌+◌, ◌≤◌, ◌⊎◌, inl, inr, Bool, true, false, List, [], ◌∷◌, ◌++◌, length, map, flat_map, Option, Some, None, refl, sym, ap, ◌∙◌, subst, arith, le_refl, All, option_to_list, contains-here}
 use Rattle.nc_base.specs.contracts.fault.FormatFaultOrd.TheImpl as faults
 use Rattle.nc_base.specs.contracts.fault.FormatFaultOrd.TheImpl.Laws as fault_laws
 use Rattle.nc_base.proofs.PartPlaces.{stops-in}
 use Rattle.nccheck_laws.proofs.FieldOrder.{fields-descend}
 use Rattle.nccheck_laws.proofs.StrictHeaders.{strict-headers, unrefused-headers, strict-faults}
 use Rattle.nccheck_laws.proofs.Refusals.{refusal_of, FirstRefused, none-refused, first-refused}
-use Rattle.nccheck_laws.proofs.FaultFindings.{fault_among, facts-fault, floating-fault, quiet-type, contains-first}
+use Rattle.nccheck_laws.proofs.FaultFindings.{fault_among, facts-fault, floating-fault, quiet-type}
 use Rattle.nccheck_laws.proofs.QuietRules.{FaultsLieAt, RefusedLiesAt, all-lie}
 use Rattle.nccheck_laws.proofs.SameFindings.{same-fault}
 
@@ -63,25 +60,14 @@ entries-tell : (fault : FormatFault) (front : List Entry) (e : Entry) (back : Li
     → All (λ (x : Entry). refusal_of x ≡ None) front → refusal_of e ≡ Some fault
     → list_any (tells fault e.offset) (header_findings (front ++ e ∷ back)) ≡ true
 unfolding header_findings field_findings floating_findings
-entries-tell fault front e back none refused =
-    let es = indexed (front ++ e ∷ back) in
-    let test = tells fault e.offset in
-    let alone = flat_map findings_at es in
-    let floating = option_to_list (floating_finding es) in
-    first-told test (alone ++ floating ++ name_findings es) (attribute_findings es)
-    (first-told test (alone ++ floating) (name_findings es) (by-test (is_floating_in e.place.name e.content) refl))
+entries-tell fault front e back none refused = by-test (is_floating_in e.place.name e.content) refl
   where
     by-test : (b : Bool) → is_floating_in e.place.name e.content ≡ b
-        → list_any (tells fault e.offset)
-        (flat_map findings_at (indexed (front ++ e ∷ back)) ++ option_to_list (floating_finding (indexed (front ++ e ∷ back))))
-        ≡ true
-    by-test true is =
-        later-told (tells fault e.offset) (flat_map findings_at (indexed (front ++ e ∷ back))) _
-        (subst (λ fault. list_any (tells fault e.offset) (option_to_list (floating_finding (indexed (front ++ e ∷ back)))) ≡ true)
-        (sym (floating-fault e fault refused is)) (floating-tells 0 front e back none is))
+        → list_any (tells fault e.offset) (header_findings (front ++ e ∷ back)) ≡ true
+    by-test true is = rw (floating-fault e fault refused is) (grind (arith, list_any-append, floating-tells 0 front e back none is))
     by-test false is =
-        first-told (tells fault e.offset) (flat_map findings_at (indexed (front ++ e ∷ back))) _
-        (fields-tell fault 0 front e back (facts-fault e.size e.content e.place.name e.place.owner e.fault is ∙ refused))
+        let told = fields-tell fault 0 front e back (facts-fault e.size e.content e.place.name e.place.owner e.fault is ∙ refused) in
+        grind (arith, list_any-append)
 
 -- ---- no fault before it
 
@@ -113,8 +99,7 @@ report-tells : (bytes : Bytes) (r : Report) (fault : FormatFault) (rest : Bytes)
 unfolding all_findings
 report-tells bytes r fault rest report first =
     sym (list_any-IsPermutation (tells fault first.entry.offset) (all_findings r.listing) r.findings report.all)
-    ∙ first-told (tells fault first.entry.offset) (header_findings r.listing.entries) (whole_findings r.listing)
-    (rw first.is (entries-tell fault first.front first.entry first.back first.before first.refused))
+    ∙ grind (arith, list_any-append, entries-tell fault first.front first.entry first.back first.before first.refused)
 
 finds-first : (bytes : Bytes) (r : Report) (fault : FormatFault) (rest : Bytes) (end : ℕ) → IsReport bytes r
     → FirstRefused (length bytes) r.listing.entries fault rest → end + length rest ≡ length bytes → FindsFirst r fault end
@@ -133,7 +118,7 @@ finds-first bytes r fault rest end report first at =
           (all-lie low r.listing (after-first (length bytes) r.listing.entries fault rest first)));
       field = first.entry;
       in_listing = subst (λ (es : List Entry). Contains es first.entry) (sym first.is)
-          (Contains-append_right first.front (first.entry ∷ first.back) first.entry (contains-first first.entry first.back));
+          (Contains-append_right first.front (first.entry ∷ first.back) first.entry (contains-here first.entry first.back));
       begins = begins;
       ends = subst (λ n. end ≡ min (first.entry.offset + first.entry.size) n) (sym report.listing.file_len) ended;
     }

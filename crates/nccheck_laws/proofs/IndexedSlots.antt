@@ -1,7 +1,5 @@
 -- Slots at their indices, the bytes of the slots before an index, and what each slot gives.
-use Rattle.std.proofs.Common.{◌≡◌, ℕ, zero, suc, ◌+◌, ◌<◌, max, ◌≤◌, Bool, true, false, List, [], ◌∷◌, length, take, filter, sum_by, refl, sym, ◌∙◌, ap, subst, arith, Some, slice_get, if◌then◌else◌}
-use Rattle.nccheck_laws.proofs.Prelude.{Contains, common_steps, length-take, All-contains, Contains-append_left, Contains-append_right, Contains-append_cases, sum_by-cons, sum_by-le-sum_by, slice_get_within, get_or_from_slice_get, slice_get-get_or, take-length, Slot, padded_slab, is_sole_narrow, record_slots, slab_in_record, record_size, each_slot, bytes_before, is_record_slot, contains-none, contains-filter, filter-contains}
-use Rattle.std.specs.List.{All}
+use Rattle.nccheck_laws.proofs.Prelude.{Contains, common_steps, length-take, All-contains, Contains-append_left, Contains-append_right, Contains-append_cases, sum_by-cons, sum_by-le-sum_by, slice_get_within, get_or_from_slice_get, slice_get-get_or, take-length, Slot, padded_slab, is_sole_narrow, record_slots, slab_in_record, record_size, each_slot, bytes_before, is_record_slot, contains-none, contains-filter, filter-contains, ◌≡◌, ℕ, zero, suc, ◌+◌, ◌<◌, max, ◌≤◌, Bool, true, false, List, [], ◌∷◌, length, take, filter, sum_by, refl, sym, ◌∙◌, ap, subst, arith, Some, slice_get, if◌then◌else◌, All}
 
 -- ---- elements
 

@@ -1,10 +1,7 @@
 -- What a report finds about the layout is what is found in the layout of the header; so it finds that values are missing exactly if some
 -- variable of the header has a first missing value.
-use Rattle.std.proofs.Common.{◌≡◌, ℕ, ◌+◌, List, [], ◌∷◌, length, map, Result, Ok, Err, refl, ap, subst, arith, Bool, false, flat_map, Option, Some, None, sym, ◌∙◌}
-use Rattle.nccheck_laws.proofs.Prelude.{FormatFault, Dim, Header, Var, Bytes, SpellsHeader, header_by, run, reads, stops, Listing, lenient, IsOutcome, without_values, layout_of, slot_of, Report, indexed, layout_facts, whole_findings, IsReport, var_without_values, list_any, list_any-append, list_any-IsPermutation, option_map, FloatingType, name_findings, attribute_findings, strict, Entry, Content, FieldName, layout_findings, spelled-layout, Fact, Finding, Indexed, field_at, indexed_from, finding, facts_with, findings_at, field_findings, floating_findings, header_findings, vsize_findings, located, all_findings, has_any, finds, is_of_missing, is_missing, LayoutFact, LayoutFinding, ReportsTellMissingValues, is_of_layout}
+use Rattle.nccheck_laws.proofs.Prelude.{FormatFault, Dim, Header, Var, Bytes, SpellsHeader, header_by, run, reads, stops, Listing, lenient, IsOutcome, without_values, layout_of, slot_of, Report, indexed, layout_facts, whole_findings, IsReport, var_without_values, list_any, list_any-append, list_any-IsPermutation, option_map, FloatingType, name_findings, attribute_findings, strict, Entry, Content, FieldName, layout_findings, spelled-layout, Fact, Finding, Indexed, field_at, indexed_from, finding, facts_with, findings_at, field_findings, floating_findings, header_findings, vsize_findings, located, all_findings, has_any, finds, is_of_missing, is_missing, LayoutFact, LayoutFinding, ReportsTellMissingValues, is_of_layout, ◌≡◌, ℕ, ◌+◌, List, [], ◌∷◌, length, map, Result, Ok, Err, refl, ap, subst, arith, Bool, false, flat_map, Option, Some, None, sym, ◌∙◌, option_to_list}
 use Rattle.nccheck_laws.proofs.StrictHeaders.{strict-headers}
-use Rattle.std.specs.Option.{option_to_list}
-use Rattle.nc_fields.specs.declared.entry.Content.TheVariants as content
 use Rattle.nc_report.specs.declared.finding.Fact.TheVariants as fact
 use Rattle.nccheck_laws.proofs.FaultFindings.{fault-fact}
 use Rattle.nccheck_laws.proofs.MissingValues.{missing-found}
@@ -47,9 +44,7 @@ read-header bytes r h rest report spelled =
 other-facts : (f : Indexed) (o : Option FormatFault) (place : FieldName) (size : ℕ) (c : Content)
     → has_any is_layout (map (finding f) (facts_with o place size c)) ≡ false
 other-facts f (Some fault) place size c = fault-fact (λ x. has_any is_layout (finding f x ∷ []) ≡ false) fault c refl refl refl refl
-other-facts f None place size (content.Number n) = grind arith
-other-facts f None place size (content.Bytes bs) = grind arith
-other-facts f None place size c = refl
+other-facts f None place size v4 = grind arith
 
 other-fields : (i : ℕ) (es : List Entry) → has_any is_layout (flat_map findings_at (indexed_from i es)) ≡ false
 other-fields i [] = refl

@@ -1,6 +1,5 @@
 -- Parts that are one field: a number of bytes, whose value is decoded.
-use Rattle.std.proofs.Common.{◌≡◌, ℕ, Bool, true, false, cond, leb, List, [], ◌∷◌, length, take, drop, None, Result, Ok, Err, refl, sym, ap, ◌∙◌, arith}
-use Rattle.nccheck_laws.proofs.Prelude.{FormatFault, Bytes, Step, Part, done, bytes, decoded, under, chain, Spells, Outcome, and_then, run, reads, fields, fault_in, HeaderTruncated, with_rest, IsField, bytes-field, decoded-field}
+use Rattle.nccheck_laws.proofs.Prelude.{FormatFault, Bytes, Step, Part, done, bytes, decoded, under, chain, Spells, Outcome, and_then, run, reads, fields, fault_in, HeaderTruncated, with_rest, IsField, bytes-field, decoded-field, ◌≡◌, ℕ, Bool, true, false, cond, leb, List, [], ◌∷◌, length, take, drop, None, Result, Ok, Err, refl, sym, ap, ◌∙◌, arith}
 
 abbrev pub is_leaf : {A : Type 0} → Part A → Bool
 is_leaf (bytes n cut) = true

@@ -20,7 +20,6 @@ pub mod StrictHeaders
 pub mod FieldOrder
 pub mod Written
 pub mod WrittenParts
-pub mod CanonicalFields
 pub mod Vsizes
 pub mod Refusals
 pub mod FaultFindings
@@ -38,3 +37,4 @@ pub mod ListedValues
 pub mod SameFindings
 pub mod Sorted
 pub mod OneReport
+pub mod ProvedLaws

@@ -1,6 +1,5 @@
 -- Each list of bytes has one listing.
-use Rattle.std.proofs.Common.{◌≡◌, ℕ, ◌-◌, List, [], ◌∷◌, length, map, Option, Result, Ok, Err, refl, sym, ap, ap₂, ◌∙◌, arith}
-use Rattle.nccheck_laws.proofs.Prelude.{Header, FormatFault, Bytes, Step, header_by, Outcome, run, reads, stops, Content, Entry, Listing, Field, fields, Seen, seen_by, steps_of, seen, lenient, IsOutcome, with_rest, left_after, Tells, tells, shorter, IsListing}
+use Rattle.nccheck_laws.proofs.Prelude.{Header, FormatFault, Bytes, Step, header_by, Outcome, run, reads, stops, Content, Entry, Listing, Field, fields, Seen, seen_by, steps_of, seen, lenient, IsOutcome, with_rest, left_after, Tells, tells, shorter, IsListing, ◌≡◌, ℕ, ◌-◌, List, [], ◌∷◌, length, map, Option, Result, Ok, Err, refl, sym, ap, ap₂, ◌∙◌, arith}
 use Rattle.nccheck_laws.proofs.FieldPlaces.{ArePlaced, placed-header}
 
 -- ---- entries
@@ -58,8 +57,8 @@ outcome-told : (bytes rest : Bytes) (r : Result Header FormatFault) → IsOutcom
 outcome-told bytes rest (Ok h) is = reads (header_by lenient) bytes h rest is
 outcome-told bytes rest (Err fault) is = stops (header_by lenient) bytes fault rest is
 
-told-back : (r : Result Header FormatFault) (rest : Bytes) → (result_of (with_rest r rest) ≡ r) × (rest_of (with_rest r rest) ≡ rest)
-told-back v0 rest = grind arith
+same-outcome : (r s : Result Header FormatFault) (rest more : Bytes) → with_rest r rest ≡ with_rest s more → (r ≡ s) × (rest ≡ more)
+same-outcome v0 v1 rest more same = grind arith
 
 -- ---- listings
 
@@ -88,10 +87,7 @@ same-listing es ds h g end other file_len more entries headers ends lens = cc
 pub one-listing : (bytes : Bytes) (k l : Listing) → IsListing bytes k → IsListing bytes l → k ≡ l
 one-listing bytes k l one two =
     let told = sym (outcome-told bytes one.rest k.header one.header) ∙ outcome-told bytes two.rest l.header two.header in
-    let first = told-back k.header one.rest in
-    let second = told-back l.header two.rest in
-    let headers = sym first.0 ∙ ap result_of told ∙ second.0 in
-    let rests = sym first.1 ∙ ap rest_of told ∙ second.1 in
+    let same = same-outcome k.header l.header one.rest two.rest told in
     same-listing k.entries l.entries k.header l.header k.end l.end k.file_len l.file_len
-    (entries-told k.entries l.entries (one.entries ∙ sym two.entries)) headers
-    (omega (arith, one.end, two.end, ap length rests)) (one.file_len ∙ sym two.file_len)
+    (entries-told k.entries l.entries (one.entries ∙ sym two.entries)) same.0
+    (omega (arith, one.end, two.end, ap length same.1)) (one.file_len ∙ sym two.file_len)

@@ -75,6 +75,7 @@ pub use Rattle.nccheck_laws.specs.HeaderLaws.{CanonicalBeginsAreGenerated, Gener
 pub use Rattle.nccheck_laws.specs.LayoutLaws.{AreApart, CanonicalBeginsAreQuiet, CanonicalLengthIsQuiet, FindsNone, HasCanonicalBegins, MissingValuesHaveSlab, QuietBeginsAreCanonical, QuietLengthIsCanonical, QuietSlabsAreApart, canonical_begin, canonical_len, fixed_bytes, is_of_begin, is_of_end, is_of_shared_bytes}
 pub use Rattle.nccheck_laws.specs.ReportLaws.{CanonicalSpellingsAreQuiet, FindsWholeFile, GeneratedFilesAreFoundWhole, GeneratedFilesHaveQuietLayouts, GeneratedFilesHaveQuietSpellings, HasQuietLayout, IsAsGenerated, QuietFilesAreCanonical, QuietHeadersAreCanonical, QuietSpellingsAreCanonical, WholeFilesHoldDatasets, has_any, is_of_layout, is_of_spelling}
 pub use Rattle.nccheck_laws.specs.Written.{AreWritten, CanonicalFieldsAreWritten, IsWritten, IsWrittenTag, IsWrittenVsize, WrittenFieldsAreCanonical, bytes_of, number_of}
+pub use Rattle.std.proofs.Common.{All, Bool, Err, IfSome, List, None, Ok, Option, Result, Some, [], ap, append-nil, append_assoc, ap₂, arith, codes, cond, drop, eqb-true, false, filter, flat_map, fold, get_or, if◌then◌else◌, inl, inr, le_refl, le_trans, leb, length, length-append, length-take-le, map, max, min, nat_lt, not, refl, replicate, slice_get, subst, suc, sum_by, sym, take, take_while, true, unwrap_or, zero, ℕ, ◌&&◌, ◌*◌, ◌++◌, ◌+◌, ◌-◌, ◌/◌, ◌<◌, ◌==◌, ◌^◌, ◌||◌, ◌↔◌, ◌∙◌, ◌∷◌, ◌≡◌, ◌≢◌, ◌≤◌, ◌⊎◌}
 pub use Rattle.std.proofs.Math.Nat.{mul-le-mul_right}
 pub use Rattle.std.proofs.Math.Seq.{drop-append_seam, take-append_seam, take-length}
 pub use Rattle.std.proofs.lemmas.Bool.{cases_lt, false≢true, le-ltb, leb-false, leb-true, lt-ltb, ltb-false}
@@ -91,7 +92,7 @@ pub use Rattle.std.proofs.lemmas.List.Sums.{fails_before_first, sum-map, sum_by-
 pub use Rattle.std.proofs.lemmas.Option.{get_or_from_slice_get, slice_get-get_or, slice_get-map, slice_get_within}
 pub use Rattle.std.specs.Int.{Width, byte_len, from_be_bytes, to_be_bytes, w32, w64}
 pub use Rattle.std.specs.List.{AllPairs, Contains, concat, list_all, list_any, position, range_with_len}
-pub use Rattle.std.specs.Option.{option_cmp, option_map, option_map_or}
+pub use Rattle.std.specs.Option.{option_cmp, option_map, option_map_or, option_or, option_to_list}
 pub use Rattle.std.specs.Ordering.{is_eq, is_gt, nat_cmp, ordering_reverse, ordering_then}
 pub use Rattle.std.specs.Prelude.{IsPermutation, is_some, zip}
 pub use Rattle.std.specs.Str.{bytes_eq}

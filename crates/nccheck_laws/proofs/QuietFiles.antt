@@ -1,6 +1,5 @@
 -- A file has the header and the length of a generated file if no fault is found, and nothing about the spelling, at begins and at its end.
-use Rattle.std.proofs.Common.{◌≡◌, ◌+◌, ◌++◌, Bool, length, sym, ap, ◌∙◌, length-append}
-use Rattle.nccheck_laws.proofs.Prelude.{Header, Bytes, SpellsHeader, strict, layout_of, spelled-layout, LayoutFact, Report, IsReport, header_spelling, is_of_begin, is_of_end, is_of_layout, HasQuietLayout, IsAsGenerated, QuietFilesAreCanonical}
+use Rattle.nccheck_laws.proofs.Prelude.{Header, Bytes, SpellsHeader, strict, layout_of, spelled-layout, LayoutFact, Report, IsReport, header_spelling, is_of_begin, is_of_end, is_of_layout, HasQuietLayout, IsAsGenerated, QuietFilesAreCanonical, ◌≡◌, ◌+◌, ◌++◌, Bool, length, sym, ap, ◌∙◌, length-append}
 use Rattle.nccheck_laws.proofs.CanonicalBegins.{quiet-begins}
 use Rattle.nccheck_laws.proofs.GeneratedFiles.{canonical-generated, quiet-generated}
 use Rattle.nccheck_laws.proofs.LayoutFacts.{of-layout, read-tells}

@@ -1,12 +1,10 @@
 -- A report finds nothing about the spelling of a header exactly if it is spelled as it is written.
-use Rattle.std.proofs.Common.{◌≡◌, ◌↔◌, ℕ, zero, suc, ◌+◌, ◌||◌, Bool, true, false, List, [], ◌∷◌, ◌++◌, length, map, Option, Some, None, Ok, refl, sym, ap, ◌∙◌, subst, arith, slice_get, IfSome, option_to_list, if◌then◌else◌}
-use Rattle.nccheck_laws.proofs.Prelude.{nat_tests, common_steps, option_map, list_any_none, list_any-append, list_any-IsPermutation, Var, Header, Version, Bytes, SpellsHeader, Step, vsize_of, header_by, Entry, FieldName, Owner, Field, lenient, name_steps, owner_steps, whole_content, header_fields, without_values, number_of, IsWrittenVsize, Slot, layout_of, layout_findings, Finding, Indexed, indexed_from, indexed, is_vsize, named, vsize_finding, whole_findings, vsize_findings, all_findings, is_of_spelling, padded_slab, padded_size, slot_of, LayoutFinding, Listing, Report, IsReport, file_of, slice_get-map, with_begins, data_of, QuietSpellingsAreCanonical, CanonicalSpellingsAreQuiet, QuietHeadersAreCanonical, GeneratedFilesHaveQuietSpellings}
+use Rattle.nccheck_laws.proofs.Prelude.{nat_tests, common_steps, option_map, list_any_none, list_any-append, list_any-IsPermutation, Var, Header, Version, Bytes, SpellsHeader, Step, vsize_of, header_by, Entry, FieldName, Owner, Field, lenient, name_steps, owner_steps, whole_content, header_fields, without_values, number_of, IsWrittenVsize, Slot, layout_of, layout_findings, Finding, Indexed, indexed_from, indexed, is_vsize, named, vsize_finding, whole_findings, vsize_findings, all_findings, is_of_spelling, padded_slab, padded_size, slot_of, LayoutFinding, Listing, Report, IsReport, file_of, slice_get-map, with_begins, data_of, QuietSpellingsAreCanonical, CanonicalSpellingsAreQuiet, QuietHeadersAreCanonical, GeneratedFilesHaveQuietSpellings, ◌≡◌, ◌↔◌, ℕ, zero, suc, ◌+◌, ◌||◌, Bool, true, false, List, [], ◌∷◌, ◌++◌, length, map, Option, Some, None, Ok, refl, sym, ap, ◌∙◌, subst, arith, slice_get, IfSome, option_to_list, if◌then◌else◌}
 use Rattle.nc_fields.specs.Entries.{number_of as content_number}
 use Rattle.nccheck_laws.proofs.StrictHeaders.{strict-headers}
-use Rattle.nccheck_laws.proofs.WrittenParts.{written-fields}
+use Rattle.nccheck_laws.proofs.WrittenParts.{written-fields, header-canonical}
 use Rattle.nccheck_laws.proofs.Vsizes.{Counts, spelled-whole, is_vsize_at, AreNumbered, header-numbered}
 use Rattle.nccheck_laws.proofs.Spellings.{IsSized, AreSized, AreOf, none, more, are-of, any_odd, any_spelling, header-odd, are-written}
-use Rattle.nccheck_laws.proofs.CanonicalFields.{canonical-parts, header-canonical}
 use Rattle.nccheck_laws.proofs.FirstFaults.{faultless}
 use Rattle.nccheck_laws.proofs.FoundNone.{quiet-from, each-quiet}
 use Rattle.nccheck_laws.proofs.IndexedSlots.{At}
@@ -38,44 +36,35 @@ named-sizes k (more {e = e} {f = f} is rest) =
 
 -- ---- sizes that are as they are written
 
--- each of these sizes, the first of which is that of the variable at this index
-abbrev AreSizes : Header → ℕ → List ℕ → Type 0
-AreSizes h k [] = Unit {0}
-AreSizes h k (n ∷ ns) = IsWrittenVsize h k n × AreSizes h (k + 1) ns
+-- each of these sizes is that of its variable, the first one that of the variable at this index
+AreSizes : Header → ℕ → List ℕ → Type 0
+AreSizes h k ns = (i m n : ℕ) → slice_get ns i ≡ Some n → m ≡ k + i → IsWrittenVsize h m n
+
+sizes-more : (h : Header) (k x : ℕ) (ns : List ℕ) → IsWrittenVsize h k x → AreSizes h (k + 1) ns → AreSizes h k (x ∷ ns)
+unfolding AreSizes
+sizes-more h k x ns first others zero m n there at =
+    let same : x ≡ n = cc in let here : k ≡ m = omega arith in subst (λ i. IsWrittenVsize h i n) here (subst (IsWrittenVsize h k) same first)
+sizes-more h k x ns first others (suc i) m n there at = others i m n there (omega arith)
 
 not-sized : (h : Header) (steps : List Step) (f : Field) → is_vsize_at steps ≡ false → IsSized h steps f
 not-sized h steps f is = grind arith
 
 sizes-sized : (h : Header) (k : ℕ) (fs : List Field) → AreNumbered k fs → AreSizes h k (sizes_of fs) ↔ AreSized h fs
-sizes-sized h k [] at = (λ are. tt, λ are. tt)
+unfolding AreSizes
+sizes-sized h k [] at = (λ are. tt, λ are i m n there at. absurd cc)
 sizes-sized h k (f ∷ fs) at = by-test (is_vsize_at f.steps) refl at (λ k at. sizes-sized h k fs at)
   where
     by-test : (b : Bool) → is_vsize_at f.steps ≡ b → Counts b k f.steps (λ k. AreNumbered k fs)
         → ((k : ℕ) → AreNumbered k fs → AreSizes h k (sizes_of fs) ↔ AreSized h fs)
         → AreSizes h k (if b then number_of f ∷ sizes_of fs else sizes_of fs) ↔ (IsSized h f.steps f × AreSized h fs)
     by-test true is at go = (
-      λ are. (subst (λ steps. IsSized h steps f) (sym at.0) are.0, (go (k + 1) at.1).0 are.1),
-      λ are. (subst (λ steps. IsSized h steps f) at.0 are.0, (go (k + 1) at.1).1 are.1),
+      λ are. (
+        subst (λ steps. IsSized h steps f) (sym at.0) (are 0 k _ refl (omega arith)),
+        (go (k + 1) at.1).0 (λ i m n there at. are (suc i) m n there (omega arith)),
+      ),
+      λ are. sizes-more h k _ (sizes_of fs) (subst (λ steps. IsSized h steps f) at.0 are.0) ((go (k + 1) at.1).1 are.1),
     )
     by-test false is at go = (λ are. (not-sized h f.steps f is, (go k at).0 are), λ are. (go k at).1 are.1)
-
--- at any index
-AtEach : Header → ℕ → List ℕ → Type 0
-AtEach h k ns = (i m n : ℕ) → slice_get ns i ≡ Some n → m ≡ k + i → IsWrittenVsize h m n
-
-sizes-each : (h : Header) (k : ℕ) (ns : List ℕ) → AreSizes h k ns → AtEach h k ns
-unfolding AtEach
-sizes-each h k [] are i m n there at = absurd cc
-sizes-each h k (x ∷ ns) are zero m n there at =
-    let same : x ≡ n = cc in
-    let here : k ≡ m = omega arith in subst (λ i. IsWrittenVsize h i n) here (subst (IsWrittenVsize h k) same are.0)
-sizes-each h k (x ∷ ns) are (suc i) m n there at = sizes-each h (k + 1) ns are.1 i m n there (omega arith)
-
-each-sizes : (h : Header) (k : ℕ) (ns : List ℕ) → AtEach h k ns → AreSizes h k ns
-unfolding AtEach
-each-sizes h k [] each = tt
-each-sizes h k (x ∷ ns) each =
-    (each 0 k x refl (omega arith), each-sizes h (k + 1) ns (λ i m n there at. each (suc i) m n there (omega arith)))
 
 -- ---- what is found at them
 
@@ -110,8 +99,8 @@ slot-size h gs i x (Some g) p is at =
         )
 
 sizes-found : (h : Header) (end file_len : ℕ) (gs : List Indexed) (ns : List ℕ) → map entry_number (named is_vsize gs) ≡ ns
-    → any_spelling (vsize_findings (layout_of h end file_len) gs) ≡ false ↔ AtEach h 0 ns
-unfolding vsize_findings AtEach
+    → any_spelling (vsize_findings (layout_of h end file_len) gs) ≡ false ↔ AreSizes h 0 ns
+unfolding vsize_findings AreSizes
 sizes-found h end file_len gs ns same =
     let fs = named is_vsize gs in
     let slots = map (slot_of h.dims) h.vars in
@@ -166,8 +155,8 @@ spelling-quiet bytes r h rest report s =
     ≡ (any_odd fs || any_spelling (vsize_findings (layout_of h l.end l.file_len) (indexed l.entries))) =
     sym (list_any-IsPermutation (λ (f : Finding). is_of_spelling f.fact) (all_findings l) r.findings report.all)
     ∙ grind (arith, list_any-append, header-odd l.entries fs are, whole-spelling l h (read-header bytes r h rest report s).0) in (
-      λ quiet. (grind arith, sized.0 (each-sizes h 0 (sizes_of fs) (sizes.0 (grind arith)))),
-      λ both. let quiet = sizes.1 (sizes-each h 0 (sizes_of fs) (sized.1 both.1)) in grind (arith, both.0),
+      λ quiet. (grind arith, sized.0 (sizes.0 (grind arith))),
+      λ both. let quiet = sizes.1 (sized.1 both.1) in grind (arith, both.0),
     )
 
 pub quiet-spellings : QuietSpellingsAreCanonical
@@ -178,7 +167,7 @@ quiet-spellings from r h rest are report s quiet =
 
 pub canonical-quiet : CanonicalSpellingsAreQuiet
 canonical-quiet bytes r h rest report s is =
-    (spelling-quiet bytes r h rest report s).1 (canonical-parts h (header_fields bytes) (header-canonical bytes h rest s is))
+    (spelling-quiet bytes r h rest report s).1 (header-canonical bytes h rest s is)
 
 -- and a header without a fault is read
 pub quiet-headers : QuietHeadersAreCanonical

@@ -1,11 +1,8 @@
 -- Which findings are faults: of those at fields alone, the ones at entries that the strict rules refuse; of all others, none.
-use Rattle.std.proofs.Common.{◌≡◌, ℕ, ◌+◌, ◌||◌, ◌⊎◌, Bool, true, false, List, [], ◌∷◌, ◌++◌, flat_map, slice_get, Option, None, Result, Ok, Err, refl, sym, ◌∙◌, arith}
-use Rattle.nccheck_laws.proofs.Prelude.{Contains, list_any-append, All-nil, All-cons, All-append, Contains-append_right, Version, Entry, FieldName, Listing, FormatFault, Header, layout_of, FileLayout, LayoutFinding, layout_findings, Fact, Finding, Indexed, field_at, indexed_from, indexed, each_before, findings_at, field_findings, floating_findings, is_first, attribute_findings, finding_by_name, attribute_finding, ahead_of, vsize_findings, whole_findings, is_vsize, named, vsize_finding, located, layout_facts, header_findings, all_findings, is_fault, has_any, padded_slab, Ahead, each_after, floating_finding, name_findings, duplicate_name, All-map}
-use Rattle.std.specs.List.{All}
-use Rattle.std.specs.Option.{option_to_list}
+use Rattle.nccheck_laws.proofs.Prelude.{Contains, list_any-append, All-nil, All-cons, All-append, Contains-append_right, Version, Entry, FieldName, Listing, FormatFault, Header, layout_of, FileLayout, LayoutFinding, layout_findings, Fact, Finding, Indexed, field_at, indexed_from, indexed, each_before, findings_at, field_findings, floating_findings, is_first, attribute_findings, finding_by_name, attribute_finding, ahead_of, vsize_findings, whole_findings, is_vsize, named, vsize_finding, located, layout_facts, header_findings, all_findings, is_fault, has_any, padded_slab, Ahead, each_after, floating_finding, name_findings, duplicate_name, All-map, ◌≡◌, ℕ, ◌+◌, ◌||◌, ◌⊎◌, Bool, true, false, List, [], ◌∷◌, ◌++◌, flat_map, slice_get, Option, None, Result, Ok, Err, refl, sym, ◌∙◌, arith, All, option_to_list, contains-here}
 use Rattle.nc_report.specs.declared.finding.Fact.TheVariants as fact
 use Rattle.nccheck_laws.proofs.Refusals.{refusal_of}
-use Rattle.nccheck_laws.proofs.FaultFindings.{quiet-type, contains-first}
+use Rattle.nccheck_laws.proofs.FaultFindings.{quiet-type}
 use Rattle.nccheck_laws.proofs.FoundNone.{each-quiet}
 
 -- ---- findings that are no faults
@@ -106,12 +103,12 @@ entry-lies v0 i e v3 = grind arith
 fields-lie : (Q : ℕ → Type 0) (i : ℕ) (es : List Entry) → ((e : Entry) → Contains es e → RefusedLiesAt Q e)
     → All (FaultsLieAt Q) (flat_map findings_at (indexed_from i es))
 fields-lie Q i [] lies = All-nil (FaultsLieAt Q)
-fields-lie Q i (e ∷ es) lies = grind (arith, fields-lie Q (i + 1) es (λ x has. lies x (Contains-append_right (e ∷ []) es x has)), All-append, entry-lies, contains-first, Contains-append_right)
+fields-lie Q i (e ∷ es) lies = grind (arith, fields-lie Q (i + 1) es (λ x has. lies x (Contains-append_right (e ∷ []) es x has)), All-append, entry-lies, contains-here, Contains-append_right)
 
 floating-lies : (Q : ℕ → Type 0) (i : ℕ) (es : List Entry) → ((e : Entry) → Contains es e → RefusedLiesAt Q e)
     → All (FaultsLieAt Q) (option_to_list (floating_finding (indexed_from i es)))
 floating-lies Q i [] lies = All-nil (FaultsLieAt Q)
-floating-lies Q i (e ∷ es) lies = grind (arith, floating-lies Q (i + 1) es (λ x has. lies x (Contains-append_right (e ∷ []) es x has)), contains-first, Contains-append_right, quiet-type, All-cons, All-nil)
+floating-lies Q i (e ∷ es) lies = grind (arith, floating-lies Q (i + 1) es (λ x has. lies x (Contains-append_right (e ∷ []) es x has)), contains-here, Contains-append_right, quiet-type, All-cons, All-nil)
 
 pub all-lie : (Q : ℕ → Type 0) (l : Listing) → ((e : Entry) → Contains l.entries e → RefusedLiesAt Q e)
     → All (FaultsLieAt Q) (all_findings l)

@@ -1,7 +1,5 @@
 -- The first entry of a listing that the strict rules refuse.
-use Rattle.std.proofs.Common.{le_trans, ◌≡◌, ℕ, ◌-◌, ◌≤◌, Bool, true, false, cond, nat_lt, List, [], ◌∷◌, ◌++◌, length, map, drop, Option, Some, None, refl, sym, ap, ◌∙◌, subst, arith}
-use Rattle.nccheck_laws.proofs.Prelude.{All-nil, All-cons, FormatFault, Bytes, Step, Entry, Field, seen, Seen, seen_by, steps_of, whole_content, refusal_in, first_refusal, Magic, cut_content, length-drop, refusal}
-use Rattle.std.specs.List.{All}
+use Rattle.nccheck_laws.proofs.Prelude.{All-nil, All-cons, FormatFault, Bytes, Step, Entry, Field, seen, Seen, seen_by, steps_of, whole_content, refusal_in, first_refusal, Magic, cut_content, length-drop, refusal, le_trans, ◌≡◌, ℕ, ◌-◌, ◌≤◌, Bool, true, false, cond, nat_lt, List, [], ◌∷◌, ◌++◌, length, map, drop, Option, Some, None, refl, sym, ap, ◌∙◌, subst, arith, All}
 use Rattle.nccheck_laws.proofs.Agreement.{first_of}
 use Rattle.nccheck_laws.proofs.FieldOrder.{Descend}
 
@@ -35,22 +33,14 @@ same-offset len f e is = ap (λ (s : Seen). s.offset) is
 abbrev pub AreEntriesOf : ℕ → List Field → List Entry → Type 0
 AreEntriesOf len fs es = map seen_by es ≡ map (seen len) fs
 
-first-same : (len : ℕ) (f : Field) (fs : List Field) (e : Entry) (es : List Entry) → AreEntriesOf len (f ∷ fs) (e ∷ es)
-    → seen_by e ≡ seen len f
-first-same len f fs e es is = cc
-
-others-same : (len : ℕ) (f : Field) (fs : List Field) (e : Entry) (es : List Entry) → AreEntriesOf len (f ∷ fs) (e ∷ es)
-    → AreEntriesOf len fs es
-others-same len f fs e es is = cc
-
 -- none is refused
 pub none-refused : (len : ℕ) (fs : List Field) (es : List Entry) → AreEntriesOf len fs es → first_refusal fs ≡ None
     → All (λ (e : Entry). refusal_of e ≡ None) es
 none-refused len fs [] is none = All-nil (λ (e : Entry). refusal_of e ≡ None)
 none-refused len [] (e ∷ es) is none = absurd cc
 none-refused len (f ∷ fs) (e ∷ es) is none =
-    All-cons (λ (e : Entry). refusal_of e ≡ None) e es (let same = same-refusal len f e (first-same len f fs e es is) in grind arith)
-    (none-refused len fs es (others-same len f fs e es is) (grind arith))
+    All-cons (λ (e : Entry). refusal_of e ≡ None) e es (let same = same-refusal len f e (cc) in grind arith)
+    (none-refused len fs es (cc) (grind arith))
 
 -- entries after a field begin after it
 later : (len top bottom : ℕ) (fs : List Field) (es : List Entry) → AreEntriesOf len fs es → Descend top bottom fs
@@ -58,12 +48,9 @@ later : (len top bottom : ℕ) (fs : List Field) (es : List Entry) → AreEntrie
 later len top bottom fs [] is d = All-nil (λ (e : Entry). len - top ≤ e.offset)
 later len top bottom [] (e ∷ es) is d = absurd cc
 later len top bottom (f ∷ fs) (e ∷ es) is d =
-    let others = later len (length f.start) bottom fs es (others-same len f fs e es is) d.1 in
-    let at = same-offset len f e (first-same len f fs e es is) in
-    All-cons (λ (e : Entry). len - top ≤ e.offset) e es (omega (arith, at, d.0)) (λ k x lt. below (others k x lt) d.0)
-  where
-    below : {n low high : ℕ} → len - low ≤ n → low ≤ high → len - high ≤ n
-    below a b = omega (arith, a, b)
+    let others = later len (length f.start) bottom fs es (cc) d.1 in
+    let at = same-offset len f e (cc) in
+    All-cons (λ (e : Entry). len - top ≤ e.offset) e es (omega (arith, at, d.0)) (λ k x lt. omega (arith, others k x lt, d.0))
 
 -- the rest after an entry, in a file of this length, which may end inside of it
 pub record Ends (len : ℕ) (e : Entry) (rest : Bytes) : Type 0 where
@@ -122,8 +109,8 @@ pub first-refused : (len top bottom : ℕ) (fs : List Field) (es : List Entry) (
 first-refused len top bottom [] es fault rest is le d refused = absurd cc
 first-refused len top bottom (f ∷ fs) [] fault rest is le d refused = absurd cc
 first-refused len top bottom (f ∷ fs) (e ∷ es) fault rest is le d refused =
-    let same = first-same len f fs e es is in
-    let others = others-same len f fs e es is in
+    let same : seen_by e ≡ seen len f = cc in
+    let others : AreEntriesOf len fs es = cc in
     let within = le_trans d.0 le in
     by-refusal len f e es fault rest (refusal f) (first_refusal fs) (same-refusal len f e same) refused
     (subst (λ n. All (λ (x : Entry). n ≤ x.offset) es) (sym (same-offset len f e same))

@@ -1,6 +1,5 @@
 -- If none of the findings lets slabs share bytes, no two slabs have a byte in common.
-use Rattle.std.proofs.Common.{◌≡◌, ℕ, suc, ◌+◌, ◌-◌, ◌*◌, ◌<◌, ◌≤◌, true, List, [], ◌∷◌, ◌++◌, get_or, arith, refl}
-use Rattle.nccheck_laws.proofs.Prelude.{Contains, AllPairs, cases_lt, nat_tests, All-append, Contains-get_or, get_or-map-range_with_len, length-map-range_with_len, AllPairs-cons, mul-le-mul_right, Slot, FileLayout, Extent, SlabPlace, padded_slab, is_fixed, record_size, record_count, each_slot, blocks, before, precedes, slot_findings, bytes_before, block_findings, record_slab, slabs_of, all_slabs, is_of_shared_bytes, FindsNone, AreApart, QuietSlabsAreApart, is_record_slot, value_end, contains-here, contains-there, contains-filter, greatest_from-above}
+use Rattle.nccheck_laws.proofs.Prelude.{Contains, AllPairs, cases_lt, nat_tests, All-append, Contains-get_or, get_or-map-range_with_len, length-map-range_with_len, AllPairs-cons, mul-le-mul_right, Slot, FileLayout, Extent, SlabPlace, padded_slab, is_fixed, record_size, record_count, each_slot, blocks, before, precedes, slot_findings, bytes_before, block_findings, record_slab, slabs_of, all_slabs, is_of_shared_bytes, FindsNone, AreApart, QuietSlabsAreApart, is_record_slot, value_end, contains-here, contains-there, contains-filter, greatest_from-above, ◌≡◌, ℕ, suc, ◌+◌, ◌-◌, ◌*◌, ◌<◌, ◌≤◌, true, List, [], ◌∷◌, ◌++◌, get_or, arith, refl}
 use Rattle.nccheck_laws.proofs.FoundNone.{quiet-slot, quiet-block}
 use Rattle.nccheck_laws.proofs.IndexedSlots.{At, in-from, in-each, total-below, slab-fits, slab-le}
 use Rattle.nccheck_laws.proofs.LayoutBlocks.{fixed-there, records-there, records_end-above, first_begin, begins}

@@ -1,6 +1,5 @@
 -- Each list has a permutation in a total order.
-use Rattle.std.proofs.Common.{◌≡◌, Bool, true, false, cond, List, [], ◌∷◌, refl, ap, arith}
-use Rattle.nccheck_laws.proofs.Prelude.{All-nil, All-cons, Ordering, Less, Equal, Greater, IsPermutation-sym, IsPermutation-trans, All-permutation, IsPermutation, AllPairs, is_gt, ordering_reverse, upto, All-weaker, AllPairs-cons, IsPermutation-refl, IsPermutation-cons, IsPermutation-middle, UpTo, pairs-head, pairs-tail}
+use Rattle.nccheck_laws.proofs.Prelude.{All-nil, All-cons, Ordering, Less, Equal, Greater, IsPermutation-sym, IsPermutation-trans, All-permutation, IsPermutation, AllPairs, is_gt, ordering_reverse, upto, All-weaker, AllPairs-cons, IsPermutation-refl, IsPermutation-cons, IsPermutation-middle, UpTo, pairs-head, pairs-tail, ◌≡◌, Bool, true, false, cond, List, [], ◌∷◌, refl, ap, arith}
 use Rattle.std.specs.Cmp.{IsTotalOrder}
 
 module _ {X : Type 0} (R : X → X → Ordering) (order : IsTotalOrder R) where

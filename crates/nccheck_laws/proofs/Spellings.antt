@@ -1,8 +1,6 @@
 -- What is found about the spelling at whole fields: that of what fills one up a byte isn't 0, and that a list has its own tag and no elements.
-use Rattle.std.proofs.Common.{◌≡◌, ℕ, ◌+◌, ◌==◌, ◌&&◌, ◌||◌, not, Bool, false, List, [], ◌∷◌, ◌++◌, length, map, replicate, Option, None, refl, ap, ◌∙◌, arith, length-take-le, option_to_list, if◌then◌else◌}
-use Rattle.nccheck_laws.proofs.Prelude.{list_any-append, nat_tests, ltb-false, option_map, Header, FormatFault, FloatingType, Bytes, Step, Padding, Tag, Vsize, Item, Content, Entry, FieldName, Owner, Field, seen_by, steps_of, name_steps, owner_steps, whole_content, seen, bytes_of, number_of, IsWritten, IsWrittenVsize, AreWritten, Fact, Finding, Indexed, field_at, indexed_from, indexed, finding, each_before, ahead_of, finding_by_name, attribute_finding, is_first, facts_with, field_findings, attribute_findings, floating_findings, name_findings, header_findings, is_of_spelling, has_any, is_field, next_number, number_in, empty_list, has_nonzero, content_facts, Ahead, type_finding, name_finding, fact_if, IsWrittenTag}
+use Rattle.nccheck_laws.proofs.Prelude.{list_any-append, nat_tests, ltb-false, option_map, Header, FormatFault, FloatingType, Bytes, Step, Padding, Tag, Vsize, Item, Content, Entry, FieldName, Owner, Field, seen_by, steps_of, name_steps, owner_steps, whole_content, seen, bytes_of, number_of, IsWritten, IsWrittenVsize, AreWritten, Fact, Finding, Indexed, field_at, indexed_from, indexed, finding, each_before, ahead_of, finding_by_name, attribute_finding, is_first, facts_with, field_findings, attribute_findings, floating_findings, name_findings, header_findings, is_of_spelling, has_any, is_field, next_number, number_in, empty_list, has_nonzero, content_facts, Ahead, type_finding, name_finding, fact_if, IsWrittenTag, ◌≡◌, ℕ, ◌+◌, ◌==◌, ◌&&◌, ◌||◌, not, Bool, false, List, [], ◌∷◌, ◌++◌, length, map, replicate, Option, None, refl, ap, ◌∙◌, arith, length-take-le, if◌then◌else◌, option_to_list}
 use Rattle.nc_fields.specs.declared.entry.Content.TheVariants as content
-use Rattle.nc_fields.specs.declared.place.FieldName.TheVariants as name
 use Rattle.nc_report.specs.declared.finding.Fact.TheVariants as fact
 use Rattle.nccheck_laws.proofs.QuietRules.{names-fail}
 use Rattle.nccheck_laws.proofs.Vsizes.{IsWhole, AreWhole}
@@ -73,14 +71,7 @@ padding-found g v1 = grind arith
 facts-odd : (place : FieldName) (o : Owner) (size : ℕ) (g : Indexed) (f : Field)
     → any_spelling (map (finding g) (content_facts place size (whole_content (name_steps place ++ owner_steps o) f.size f.start)))
     ≡ odd_padding (name_steps place ++ owner_steps o) f
-facts-odd name.NumRecs o size g f = last-none g _ fact.LargeCount refl
-facts-odd name.Length o size g f = last-none g _ fact.LargeCount refl
-facts-odd name.NameLength o size g f = last-none g _ fact.LongName refl
-facts-odd name.Rank o size g f = last-none g _ fact.HighRank refl
-facts-odd name.Name o size g f = grind (arith, fact-none, last-none)
-facts-odd name.NamePadding o size g f = padding-found g (has_nonzero (bytes_of f))
-facts-odd name.Padding o size g f = padding-found g (has_nonzero (bytes_of f))
-facts-odd place o size g f = refl
+facts-odd v0 o size g f = grind (arith, fact-none, last-none, padding-found)
 
 found-odd : (place : FieldName) (o : Owner) (size : ℕ) (g : Indexed) (f : Field) (fault : Option FormatFault) (c : Content) → fault ≡ None
     → c ≡ whole_content (name_steps place ++ owner_steps o) f.size f.start

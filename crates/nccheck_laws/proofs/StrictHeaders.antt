@@ -1,6 +1,5 @@
 -- What the strict rules read of a header, told from the fields that the lenient rules list.
-use Rattle.std.proofs.Common.{arith, ◌≡◌, [], Some, None, Ok, subst}
-use Rattle.nccheck_laws.proofs.Prelude.{FormatFault, Header, Bytes, header_by, header_part, SpellsHeader, Outcome, run, reads, stops, fields, lenient, first_refusal, header_fields, without_values, Tells, tells, StopsWith, SpellsLeniently, StrictHeadersAreLenient, LenientHeadersAreStrict, UnrefusedHeadersAreSpelled, StrictFaultsAreFirstRefusals}
+use Rattle.nccheck_laws.proofs.Prelude.{FormatFault, Header, Bytes, header_by, header_part, SpellsHeader, Outcome, run, reads, stops, fields, lenient, first_refusal, header_fields, without_values, Tells, tells, StopsWith, SpellsLeniently, StrictHeadersAreLenient, LenientHeadersAreStrict, UnrefusedHeadersAreSpelled, StrictFaultsAreFirstRefusals, arith, ◌≡◌, [], Some, None, Ok, subst}
 use Rattle.nccheck_laws.proofs.Agreement.{Agrees}
 use Rattle.nccheck_laws.proofs.AgreeingParts.{agree-header}
 

@@ -1,6 +1,5 @@
 -- Values are found to be missing exactly if the dump of all values ends at a missing value.
-use Rattle.std.proofs.Common.{◌≡◌, ℕ, ◌+◌, ◌*◌, ◌<◌, ◌≤◌, Bool, true, false, List, [], ◌∷◌, map, refl, arith, None, All, nat_lt, if◌then◌else◌}
-use Rattle.nccheck_laws.proofs.Prelude.{list_any, Header, Var, Bytes, SpellsHeader, strict, spelled-layout, ltb-false, first_missing, lacks_values, is_some, false≢true, All-head, All-tail, slab_size, record-whole, IsSoundSlot, MissingValuesStopDumps, ShowsAllValues, is_truncated}
+use Rattle.nccheck_laws.proofs.Prelude.{list_any, Header, Var, Bytes, SpellsHeader, strict, spelled-layout, ltb-false, first_missing, lacks_values, is_some, false≢true, All-head, All-tail, slab_size, record-whole, IsSoundSlot, MissingValuesStopDumps, ShowsAllValues, is_truncated, ◌≡◌, ℕ, ◌+◌, ◌*◌, ◌<◌, ◌≤◌, Bool, true, false, List, [], ◌∷◌, map, refl, arith, None, All, nat_lt, if◌then◌else◌}
 use Rattle.nc_base.specs.Dump.{Options, Ending, IsDump, stopped, unknown, shown, has_values, is_selected, shown_data, values_in_file, variables_text}
 use Rattle.nc_base.proofs.HeaderOutcomes.{one-header, header-fine}
 use Rattle.nccheck_laws.proofs.MissingValues.{missing-found, unmapped}

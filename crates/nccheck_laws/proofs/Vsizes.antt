@@ -1,6 +1,5 @@
 -- The fields of a header that is spelled are whole, and those that are the sizes of variables stand there in the order of the variables.
-use Rattle.std.proofs.Common.{◌≡◌, ℕ, suc, zero, ◌+◌, Bool, true, false, nat_lt, List, [], ◌∷◌, ◌++◌, length, None, refl, sym, ap, ◌∙◌, subst, arith, length-append, append_assoc, append-nil}
-use Rattle.nccheck_laws.proofs.Prelude.{common_steps, Dim, Var, Header, Version, Bytes, Step, Part, done, bytes, decoded, under, chain, Spells, Dims, Gatts, Vars, Item, Vsize, dim_after, att_after, dimid_after, var_after, number, limited_part, offset_part, ignored, name_part, type_part, each, counted, list_head, list_part, dim_part, dim_list, att_part, att_list, dimid_part, shape_part, var_part, var_list, version_part, magic_part, numrecs_part, header_by, Field, fields, Rules}
+use Rattle.nccheck_laws.proofs.Prelude.{common_steps, Dim, Var, Header, Version, Bytes, Step, Part, done, bytes, decoded, under, chain, Spells, Dims, Gatts, Vars, Item, Vsize, dim_after, att_after, dimid_after, var_after, number, limited_part, offset_part, ignored, name_part, type_part, each, counted, list_head, list_part, dim_part, dim_list, att_part, att_list, dimid_part, shape_part, var_part, var_list, version_part, magic_part, numrecs_part, header_by, Field, fields, Rules, ◌≡◌, ℕ, suc, zero, ◌+◌, Bool, true, false, nat_lt, List, [], ◌∷◌, ◌++◌, length, None, refl, sym, ap, ◌∙◌, subst, arith, length-append, append_assoc, append-nil}
 use Rattle.nccheck_laws.proofs.Written.{bytes-fields, decoded-fields, chain-fields}
 
 -- ---- whole fields

@@ -1,7 +1,5 @@
 -- A report has no fault and finds no missing values exactly if the file holds a dataset.
-use Rattle.std.proofs.Common.{◌≡◌, length, map, None, refl, sym, subst, ◌∙◌}
-use Rattle.nccheck_laws.proofs.Prelude.{Var, Bytes, Report, IsReport, file_of, first_missing, concat, Dataset, HoldsDataset, bare, stored_bytes, file-holds, FindsWholeFile, WholeFilesHoldDatasets, GeneratedFilesAreFoundWhole}
-use Rattle.std.specs.List.{All}
+use Rattle.nccheck_laws.proofs.Prelude.{Var, Bytes, Report, IsReport, file_of, first_missing, concat, Dataset, HoldsDataset, bare, stored_bytes, file-holds, FindsWholeFile, WholeFilesHoldDatasets, GeneratedFilesAreFoundWhole, ◌≡◌, length, map, None, refl, sym, subst, ◌∙◌, All}
 use Rattle.nc_base.specs.Sizes.{record_count}
 use Rattle.nccheck_laws.proofs.FirstFaults.{faultless}
 use Rattle.nccheck_laws.proofs.LayoutFacts.{missing-told}

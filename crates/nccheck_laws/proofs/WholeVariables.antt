@@ -1,7 +1,5 @@
 -- The slabs of a variable are whole in a file if none of its values is missing, and the other way around.
-use Rattle.std.proofs.Common.{◌≡◌, ℕ, zero, suc, ◌+◌, ◌*◌, ◌<◌, ◌≤◌, Bool, true, false, List, [], ◌∷◌, ◌++◌, length, map, refl, arith, None, All, if◌then◌else◌}
-use Rattle.nccheck_laws.proofs.Prelude.{position, range_with_len, map-append, All-cons, All-head, All-nil, All-tail, fails_before_first, Header, Var, Bytes, distance, ends_after, first_missing, slab_strides, value_offsets, vectors_below, is_record_var, product, slab_lens, slab_size, size_of, fixed-whole, record-whole, slot_of}
-use Rattle.std.specs.Prelude.{flat_map}
+use Rattle.nccheck_laws.proofs.Prelude.{position, range_with_len, map-append, All-cons, All-head, All-nil, All-tail, fails_before_first, Header, Var, Bytes, distance, ends_after, first_missing, slab_strides, value_offsets, vectors_below, is_record_var, product, slab_lens, slab_size, size_of, fixed-whole, record-whole, slot_of, ◌≡◌, ℕ, zero, suc, ◌+◌, ◌*◌, ◌<◌, ◌≤◌, Bool, true, false, List, [], ◌∷◌, ◌++◌, length, map, refl, arith, None, All, if◌then◌else◌, flat_map}
 use Rattle.nc_base.specs.Sizes.{record_size}
 use Rattle.nccheck_laws.proofs.WholeSlots.{IsWholeSlot}
 

@@ -1,5 +1,4 @@
-use Rattle.std.proofs.Common.{arith, rules}
-use Rattle.nc_fields.proofs.Prelude.{err_from_is_err_and}
+use Rattle.nc_fields.proofs.Prelude.{err_from_is_err_and, arith, rules}
 use Rattle.nc_fields.proofs.Passed.{passed-more, passed-all, passed-err}
 use Rattle.nc_fields.proofs.attribute.pass_values.Goals as goal
 

@@ -1,4 +1,4 @@
-use Rattle.std.proofs.Common.{refl, rules, ◌∙◌}
+use Rattle.nc_fields.proofs.Prelude.{refl, rules, ◌∙◌}
 use Rattle.nc_fields.proofs.Listed.{blamed, is-listing, reads-forward}
 use Rattle.nc_fields.proofs.header.list_fields.Goals as goal
 

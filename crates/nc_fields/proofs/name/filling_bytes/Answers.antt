@@ -1,5 +1,4 @@
-use Rattle.std.proofs.Common.{subst}
-use Rattle.nc_fields.proofs.Prelude.{Bytes, IsHeld}
+use Rattle.nc_fields.proofs.Prelude.{Bytes, IsHeld, subst}
 use Rattle.nc_fields.proofs.Texts.{held-read}
 use Rattle.nc_fields.proofs.name.filling_bytes.Goals as goal
 

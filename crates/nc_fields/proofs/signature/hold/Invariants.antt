@@ -1,5 +1,4 @@
-use Rattle.std.proofs.Common.{◌≡◌, ◌≤◌, ◌+◌}
-use Rattle.nc_fields.proofs.Prelude.{OnTrue, Kept, source_of}
+use Rattle.nc_fields.proofs.Prelude.{OnTrue, Kept, source_of, ◌≡◌, ◌≤◌, ◌+◌}
 use Rattle.nc_fields.proofs.signature.hold.Given as goal
 
 -- at least as many bytes are held as reads were made

@@ -1,5 +1,4 @@
-use Rattle.std.proofs.Common.{◌≡◌, ℕ, ◌+◌, ◌≤◌, ◌++◌, length, take, drop, sym, ap, ap₂, ◌∙◌, arith, length-take}
-use Rattle.nc_fields.proofs.Prelude.{take-append-le, Bytes, OnTrue_at, drop-drop}
+use Rattle.nc_fields.proofs.Prelude.{take-append-le, Bytes, OnTrue_at, drop-drop, ◌≡◌, ℕ, ◌+◌, ◌≤◌, ◌++◌, length, take, drop, sym, ap, ap₂, ◌∙◌, arith, length-take}
 use Rattle.std.proofs.Math.Seq.{take-add, take-append-add}
 use Rattle.devices.specs.Sources.{SourceView}
 use Rattle.nc_fields.proofs.signature.read_more.Goals as goal

@@ -1,5 +1,4 @@
-use Rattle.std.proofs.Common.{arith, sym, subst}
-use Rattle.nc_layout.proofs.Prelude.{AllPairs}
+use Rattle.nc_layout.proofs.Prelude.{AllPairs, arith, sym, subst}
 use Rattle.nc_layout.proofs.BlockOrder.{Listed, ascending-sorted}
 use Rattle.nc_layout.proofs.ListedBlocks.{blocks-listed}
 use Rattle.nc_layout.proofs.SweptBlocks.{swept-blocks}

@@ -1,5 +1,4 @@
-use Rattle.std.proofs.Common.{◌≡◌, ◌++◌, drop, None}
-use Rattle.nc_layout.proofs.Prelude.{swept}
+use Rattle.nc_layout.proofs.Prelude.{swept, ◌≡◌, ◌++◌, drop, None}
 use Rattle.nc_layout.proofs.block_rules.push_findings_in_order.Given as goal
 
 abbrev pub invariant-loop-block : goal.invariant-loop-block

@@ -1,5 +1,4 @@
-use Rattle.std.proofs.Common.{rules}
-use Rattle.nc_layout.proofs.Prelude.{IsNonDecreasingBy-from_sort_by_key, answers_always, Extent}
+use Rattle.nc_layout.proofs.Prelude.{IsNonDecreasingBy-from_sort_by_key, answers_always, Extent, rules}
 use Rattle.nc_layout.proofs.block_rules.sort_by_begin.Goals as goal
 
 pub returns-clause-sorted : goal.returns-clause-sorted

@@ -1,5 +1,4 @@
-use Rattle.std.proofs.Common.{◌≡◌, ◌++◌, drop}
-use Rattle.nc_layout.proofs.Prelude.{each_slot, fixed_block}
+use Rattle.nc_layout.proofs.Prelude.{each_slot, fixed_block, ◌≡◌, ◌++◌, drop}
 use Rattle.nc_layout.proofs.blocks.fixed_blocks.Given as goal
 
 abbrev pub invariant-loop-i : goal.invariant-loop-i

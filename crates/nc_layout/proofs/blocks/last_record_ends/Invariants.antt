@@ -1,5 +1,4 @@
-use Rattle.std.proofs.Common.{◌≡◌, ◌+◌, map, fold, max}
-use Rattle.nc_layout.proofs.Prelude.{Slot, record_slots, slab_if}
+use Rattle.nc_layout.proofs.Prelude.{Slot, record_slots, slab_if, ◌≡◌, ◌+◌, map, fold, max}
 use Rattle.nc_layout.proofs.SlotLists.{rest}
 use Rattle.nc_layout.proofs.blocks.last_record_ends.Given as goal
 

@@ -1,5 +1,4 @@
-use Rattle.std.proofs.Common.{arith}
-use Rattle.nc_layout.proofs.Prelude.{nat_tests}
+use Rattle.nc_layout.proofs.Prelude.{nat_tests, arith}
 use Rattle.nc_layout.proofs.blocks.records_ends.Goals as goal
 
 pub returns-else-records-eq0-clause-values : goal.returns-else-records-eq0-clause-values

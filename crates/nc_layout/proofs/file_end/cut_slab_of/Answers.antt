@@ -1,5 +1,4 @@
-use Rattle.std.proofs.Common.{arith}
-use Rattle.nc_layout.proofs.Prelude.{nat_tests}
+use Rattle.nc_layout.proofs.Prelude.{nat_tests, arith}
 use Rattle.nc_layout.proofs.CutSlabs.{first_cut_is}
 use Rattle.nc_layout.proofs.file_end.cut_slab_of.Goals as goal
 

@@ -1,5 +1,4 @@
-use Rattle.std.proofs.Common.{◌≡◌, map, fold, max, filter, drop}
-use Rattle.nc_layout.proofs.Prelude.{Extent, has_values}
+use Rattle.nc_layout.proofs.Prelude.{Extent, has_values, ◌≡◌, map, fold, max, filter, drop}
 use Rattle.nc_layout.proofs.file_end.file_ends.Given as goal
 
 abbrev pub invariant-loop-block : goal.invariant-loop-block

@@ -1,5 +1,4 @@
-use Rattle.std.proofs.Common.{arith}
-use Rattle.nc_layout.proofs.Prelude.{at_drop_more, Slot, each_slot, slabs_of, all_slabs, first_cut_slab}
+use Rattle.nc_layout.proofs.Prelude.{at_drop_more, Slot, each_slot, slabs_of, all_slabs, first_cut_slab, arith}
 use Rattle.nc_layout.proofs.SlotLists.{record_size_le}
 use Rattle.nc_layout.proofs.CutSlabs.{first_cut-append, record_size_positive}
 use Rattle.nc_layout.proofs.file_end.first_cut_slab.Goals as goal

@@ -1,5 +1,4 @@
-use Rattle.std.proofs.Common.{◌≡◌, filter, drop}
-use Rattle.nc_layout.proofs.Prelude.{each_slot, first_of, first_slab, is_cut, slabs_of, first_cut_slab}
+use Rattle.nc_layout.proofs.Prelude.{each_slot, first_of, first_slab, is_cut, slabs_of, first_cut_slab, ◌≡◌, filter, drop}
 use Rattle.nc_layout.proofs.file_end.first_cut_slab.Given as goal
 
 abbrev pub invariant-loop-i : goal.invariant-loop-i

@@ -1,5 +1,4 @@
-use Rattle.std.proofs.Common.{arith, append_assoc}
-use Rattle.nc_layout.proofs.Prelude.{IsPermutation-append_right, layout_findings}
+use Rattle.nc_layout.proofs.Prelude.{IsPermutation-append_right, layout_findings, arith, append_assoc}
 use Rattle.nc_layout.proofs.findings.layout_findings.Goals as goal
 
 pub returns : goal.returns

@@ -1,4 +1,4 @@
-use Rattle.std.proofs.Common.{arith, length, ◌<◌, ◌≡◌}
+use Rattle.nc_layout.proofs.Prelude.{arith, length, ◌<◌, ◌≡◌}
 use Rattle.nc_layout.proofs.HeaderSlots.{slots_more}
 use Rattle.nc_layout.proofs.header_layout.slots_of.Goals as goal
 

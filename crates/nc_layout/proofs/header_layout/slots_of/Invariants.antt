@@ -1,4 +1,4 @@
-use Rattle.std.proofs.Common.{take}
+use Rattle.nc_layout.proofs.Prelude.{take}
 use Rattle.nc_layout.proofs.HeaderSlots.{AreSlots}
 use Rattle.nc_layout.proofs.header_layout.slots_of.Given as goal
 

@@ -1,4 +1,4 @@
-use Rattle.std.proofs.Common.{arith}
+use Rattle.nc_layout.proofs.Prelude.{arith}
 use Rattle.nc_layout.proofs.HeaderSlots.{small_slabs}
 use Rattle.nc_layout.proofs.header_layout.sound_layout.Goals as goal
 

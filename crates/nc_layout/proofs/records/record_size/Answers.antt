@@ -1,4 +1,4 @@
-use Rattle.std.proofs.Common.{arith}
+use Rattle.nc_layout.proofs.Prelude.{arith}
 use Rattle.nc_layout.proofs.SlotLists.{record_size_fits}
 use Rattle.nc_layout.proofs.records.record_size.Goals as goal
 

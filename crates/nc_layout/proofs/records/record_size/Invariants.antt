@@ -1,5 +1,4 @@
-use Rattle.std.proofs.Common.{◌≡◌, ◌+◌, sum_by}
-use Rattle.nc_layout.proofs.Prelude.{record_size, slab_if}
+use Rattle.nc_layout.proofs.Prelude.{record_size, slab_if, ◌≡◌, ◌+◌, sum_by}
 use Rattle.nc_layout.proofs.SlotLists.{rest}
 use Rattle.nc_layout.proofs.records.record_size.Given as goal
 

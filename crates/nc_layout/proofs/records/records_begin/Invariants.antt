@@ -1,5 +1,4 @@
-use Rattle.std.proofs.Common.{◌≡◌}
-use Rattle.nc_layout.proofs.Prelude.{records_begin}
+use Rattle.nc_layout.proofs.Prelude.{records_begin, ◌≡◌}
 use Rattle.nc_layout.proofs.SlotLists.{rest, least_from}
 use Rattle.nc_layout.proofs.records.records_begin.Given as goal
 

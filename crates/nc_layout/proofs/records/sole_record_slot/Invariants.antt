@@ -1,5 +1,4 @@
-use Rattle.std.proofs.Common.{◌≡◌, ◌++◌}
-use Rattle.nc_layout.proofs.Prelude.{option_to_list, record_slots}
+use Rattle.nc_layout.proofs.Prelude.{option_to_list, record_slots, ◌≡◌, ◌++◌}
 use Rattle.nc_layout.proofs.SlotLists.{rest}
 use Rattle.nc_layout.proofs.records.sole_record_slot.Given as goal
 

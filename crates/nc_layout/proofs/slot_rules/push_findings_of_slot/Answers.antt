@@ -1,5 +1,4 @@
-use Rattle.std.proofs.Common.{arith, append_assoc}
-use Rattle.nc_layout.proofs.Prelude.{slot_findings}
+use Rattle.nc_layout.proofs.Prelude.{slot_findings, arith, append_assoc}
 use Rattle.nc_layout.proofs.PassedLists.{has_successor_is, order_is}
 use Rattle.nc_layout.proofs.slot_rules.push_findings_of_slot.Goals as goal
 

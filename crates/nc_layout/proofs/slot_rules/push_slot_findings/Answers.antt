@@ -1,5 +1,4 @@
-use Rattle.std.proofs.Common.{arith, append_assoc}
-use Rattle.nc_layout.proofs.Prelude.{at_drop_more, Slot, each_slot, slot_findings}
+use Rattle.nc_layout.proofs.Prelude.{at_drop_more, Slot, each_slot, slot_findings, arith, append_assoc}
 use Rattle.nc_layout.proofs.PassedLists.{passed-more, bytes_before-le}
 use Rattle.nc_layout.proofs.slot_rules.push_slot_findings.Goals as goal
 

@@ -1,5 +1,4 @@
-use Rattle.std.proofs.Common.{◌≡◌, ◌++◌, drop}
-use Rattle.nc_layout.proofs.Prelude.{each_slot, slot_findings, HasPassed}
+use Rattle.nc_layout.proofs.Prelude.{each_slot, slot_findings, HasPassed, ◌≡◌, ◌++◌, drop}
 use Rattle.nc_layout.proofs.slot_rules.push_slot_findings.Given as goal
 
 abbrev pub invariant-loop-i : goal.invariant-loop-i

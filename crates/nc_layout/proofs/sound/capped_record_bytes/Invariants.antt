@@ -1,5 +1,4 @@
-use Rattle.std.proofs.Common.{◌≡◌, ◌≤◌, ◌+◌, min, sum_by}
-use Rattle.nc_layout.proofs.Prelude.{record_limit, padded_slab, record_slots}
+use Rattle.nc_layout.proofs.Prelude.{record_limit, padded_slab, record_slots, ◌≡◌, ◌≤◌, ◌+◌, min, sum_by}
 use Rattle.nc_layout.proofs.SlotLists.{rest}
 use Rattle.nc_layout.proofs.sound.capped_record_bytes.Given as goal
 

@@ -1,5 +1,4 @@
-use Rattle.std.proofs.Common.{◌≡◌, ◌-◌, ◌++◌, Bool, List, drop, ap, sym, ◌∙◌, append_assoc, arith}
-use Rattle.nc_report.proofs.Prelude.{option_to_list, Finding, Ahead, Indexed, field_at, indexed, indexed_from, ahead_of, attribute_finding, attribute_findings, finding_by_name, is_first, ahead_with, each_backward}
+use Rattle.nc_report.proofs.Prelude.{option_to_list, Finding, Ahead, Indexed, field_at, indexed, indexed_from, ahead_of, attribute_finding, attribute_findings, finding_by_name, is_first, ahead_with, each_backward, ◌≡◌, ◌-◌, ◌++◌, Bool, List, drop, ap, sym, ◌∙◌, append_assoc, arith}
 use Rattle.nc_report.proofs.IndexedLists.{rest-before, ahead_with-is, each_backward-permutation}
 use Rattle.nc_report.proofs.NameKeys.{first-of}
 use Rattle.nc_report.proofs.attribute_rules.push_attribute_findings.Goals as goal

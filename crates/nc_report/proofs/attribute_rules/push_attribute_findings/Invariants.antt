@@ -1,5 +1,4 @@
-use Rattle.std.proofs.Common.{◌≡◌, ◌++◌, drop}
-use Rattle.nc_report.proofs.Prelude.{indexed, indexed_from, ahead_of, attribute_finding, each_backward}
+use Rattle.nc_report.proofs.Prelude.{indexed, indexed_from, ahead_of, attribute_finding, each_backward, ◌≡◌, ◌++◌, drop}
 use Rattle.nc_report.proofs.attribute_rules.push_attribute_findings.Given as goal
 
 abbrev pub invariant-loop-i : goal.invariant-loop-i

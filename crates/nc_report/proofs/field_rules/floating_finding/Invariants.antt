@@ -1,5 +1,4 @@
-use Rattle.std.proofs.Common.{◌≡◌, drop}
-use Rattle.nc_report.proofs.Prelude.{find, indexed, indexed_from, is_floating}
+use Rattle.nc_report.proofs.Prelude.{find, indexed, indexed_from, is_floating, ◌≡◌, drop}
 use Rattle.nc_report.proofs.field_rules.floating_finding.Given as goal
 
 abbrev pub invariant-loop-i : goal.invariant-loop-i

@@ -1,5 +1,4 @@
-use Rattle.std.proofs.Common.{◌≡◌, Bool, true, false, List, ℕ, not, ◌&&◌, IsTrue, ◌↔◌, ap, sym, ◌∙◌}
-use Rattle.nc_report.proofs.Prelude.{one_answer, chars, IsUtf8, is_utf8, false_from_ne_true, is_not_nfc}
+use Rattle.nc_report.proofs.Prelude.{one_answer, chars, IsUtf8, is_utf8, false_from_ne_true, is_not_nfc, ◌≡◌, Bool, true, false, List, ℕ, not, ◌&&◌, IsTrue, ◌↔◌, ap, sym, ◌∙◌}
 use Rattle.std.proofs.lemmas.Str.{IsUtf8-from_is_utf8, is_utf8-from_IsUtf8}
 use Rattle.unicode_normalization.specs.Forms.{Nfc, IsInForm, is_nfc}
 use Rattle.unicode_normalization.proofs.FormsLemmas.{is_in_form-true, is_in_form_from}

@@ -1,5 +1,4 @@
-use Rattle.std.proofs.Common.{◌≡◌, ◌++◌, drop}
-use Rattle.nc_report.proofs.Prelude.{flat_map, indexed, indexed_from, findings_at}
+use Rattle.nc_report.proofs.Prelude.{flat_map, indexed, indexed_from, findings_at, ◌≡◌, ◌++◌, drop}
 use Rattle.nc_report.proofs.field_rules.push_field_findings.Given as goal
 
 abbrev pub invariant-loop-i : goal.invariant-loop-i

@@ -1,5 +1,4 @@
-use Rattle.std.proofs.Common.{◌≡◌, List, [], ◌++◌, sym, ◌∙◌, ap, subst}
-use Rattle.nc_report.proofs.Prelude.{IsPermutation, IsPermutation-append_right, Finding, header_findings}
+use Rattle.nc_report.proofs.Prelude.{IsPermutation, IsPermutation-append_right, Finding, header_findings, ◌≡◌, List, [], ◌++◌, sym, ◌∙◌, ap, subst}
 use Rattle.nc_report.proofs.header_rules.header_findings.Goals as goal
 
 -- what has been appended part by part, the last part in another order

@@ -1,5 +1,4 @@
-use Rattle.std.proofs.Common.{◌≡◌, ℕ, ◌∙◌, ap, sym, Option, Some, None}
-use Rattle.nc_report.proofs.Prelude.{option_map, option_or, field_at, NameKey, is_same_key, key_of, index_if}
+use Rattle.nc_report.proofs.Prelude.{option_map, option_or, field_at, NameKey, is_same_key, key_of, index_if, ◌≡◌, ℕ, ◌∙◌, ap, sym, Option, Some, None}
 use Rattle.nc_report.proofs.NameKeys.{LentName, lent, first_index-other, first_index-name}
 use Rattle.nc_report.proofs.name_rules.add_name.Goals as goal
 

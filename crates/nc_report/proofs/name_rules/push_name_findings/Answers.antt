@@ -1,5 +1,4 @@
-use Rattle.std.proofs.Common.{◌≡◌, ◌+◌, ◌∷◌, [], ◌++◌, List, take, drop, ap, sym, ◌∙◌, append_assoc, Option}
-use Rattle.nc_report.proofs.Prelude.{option_to_list, Entry, Finding, Indexed, field_at, indexed, indexed_from, each_after, duplicate_name, first_index}
+use Rattle.nc_report.proofs.Prelude.{option_to_list, Entry, Finding, Indexed, field_at, indexed, indexed_from, each_after, duplicate_name, first_index, ◌≡◌, ◌+◌, ◌∷◌, [], ◌++◌, List, take, drop, ap, sym, ◌∙◌, append_assoc, Option}
 use Rattle.nc_report.proofs.IndexedLists.{rest, indexed-take}
 use Rattle.nc_report.proofs.name_rules.push_name_findings.Goals as goal
 

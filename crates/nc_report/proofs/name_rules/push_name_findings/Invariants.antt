@@ -1,5 +1,4 @@
-use Rattle.std.proofs.Common.{◌≡◌, [], ◌++◌, take, drop}
-use Rattle.nc_report.proofs.Prelude.{indexed, indexed_from, each_after, duplicate_name, HasFirst}
+use Rattle.nc_report.proofs.Prelude.{indexed, indexed_from, each_after, duplicate_name, HasFirst, ◌≡◌, [], ◌++◌, take, drop}
 use Rattle.nc_report.proofs.name_rules.push_name_findings.Given as goal
 
 abbrev pub invariant-loop-i : goal.invariant-loop-i

@@ -1,5 +1,4 @@
-use Rattle.std.proofs.Common.{◌≡◌, ◌<◌, ◌^◌, take}
-use Rattle.nc_report.proofs.Prelude.{hash}
+use Rattle.nc_report.proofs.Prelude.{hash, ◌≡◌, ◌<◌, ◌^◌, take}
 use Rattle.nc_report.proofs.names.hash.Given as goal
 
 abbrev pub invariant-loop-b : goal.invariant-loop-b

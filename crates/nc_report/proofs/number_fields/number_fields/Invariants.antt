@@ -1,5 +1,4 @@
-use Rattle.std.proofs.Common.{◌≡◌, ◌++◌, map, drop}
-use Rattle.nc_report.proofs.Prelude.{indexed_from, is_numrecs, is_vsize, is_begin, named, number_field}
+use Rattle.nc_report.proofs.Prelude.{indexed_from, is_numrecs, is_vsize, is_begin, named, number_field, ◌≡◌, ◌++◌, map, drop}
 use Rattle.nc_report.proofs.number_fields.number_fields.Given as goal
 
 abbrev pub invariant-loop-index : goal.invariant-loop-index

@@ -1,5 +1,4 @@
-use Rattle.std.proofs.Common.{List, subst}
-use Rattle.nc_report.proofs.Prelude.{IsPermutation, Entry, header_findings}
+use Rattle.nc_report.proofs.Prelude.{IsPermutation, Entry, header_findings, List, subst}
 use Rattle.nc_report.proofs.Reported.{all-found}
 use Rattle.nc_report.proofs.report.findings_of.Goals as goal
 

@@ -1,5 +1,4 @@
-use Rattle.std.proofs.Common.{List, rules, sym, subst}
-use Rattle.nc_report.proofs.Prelude.{AllPairs, answers_always, Finding, finding_cmp, IsInOrder}
+use Rattle.nc_report.proofs.Prelude.{AllPairs, answers_always, Finding, finding_cmp, IsInOrder, List, rules, sym, subst}
 use Rattle.nc_report.proofs.OneOrder.{sorted-order}
 use Rattle.nc_report.proofs.Reported.{key, findings-total}
 use Rattle.nc_report.proofs.report.in_order.Goals as goal

@@ -1,5 +1,4 @@
-use Rattle.std.proofs.Common.{◌≡◌, ◌++◌, map, drop}
-use Rattle.nc_report.proofs.Prelude.{located_number}
+use Rattle.nc_report.proofs.Prelude.{located_number, ◌≡◌, ◌++◌, map, drop}
 use Rattle.nc_report.proofs.whole_header.push_located.Given as goal
 
 abbrev pub invariant-loop-finding : goal.invariant-loop-finding

@@ -1,5 +1,4 @@
-use Rattle.std.proofs.Common.{ℕ, List, ◌++◌, ◌+◌, ap, ap₂, sym, ◌∙◌, append_assoc, drop, slice_get}
-use Rattle.nc_report.proofs.Prelude.{at_drop_more, option_to_list, Slot, padded_slab, each_slot, Finding, vsize_fact}
+use Rattle.nc_report.proofs.Prelude.{at_drop_more, option_to_list, Slot, padded_slab, each_slot, Finding, vsize_fact, ℕ, List, ◌++◌, ◌+◌, ap, ap₂, sym, ◌∙◌, append_assoc, drop, slice_get}
 use Rattle.nc_report.proofs.whole_header.push_vsize_findings.Goals as goal
 
 pub loop-i-preserved : goal.loop-i-preserved

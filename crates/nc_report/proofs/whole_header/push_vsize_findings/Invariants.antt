@@ -1,5 +1,4 @@
-use Rattle.std.proofs.Common.{◌≡◌, ◌++◌, drop, slice_get}
-use Rattle.nc_report.proofs.Prelude.{option_to_list, padded_slab, each_slot, vsize_fact}
+use Rattle.nc_report.proofs.Prelude.{option_to_list, padded_slab, each_slot, vsize_fact, ◌≡◌, ◌++◌, drop, slice_get}
 use Rattle.nc_report.proofs.whole_header.push_vsize_findings.Given as goal
 
 abbrev pub invariant-loop-i : goal.invariant-loop-i

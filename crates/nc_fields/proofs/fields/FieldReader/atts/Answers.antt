@@ -1,5 +1,4 @@
-use Rattle.std.proofs.Common.{refl}
-use Rattle.nc_fields.proofs.Prelude.{err_from_is_err_and}
+use Rattle.nc_fields.proofs.Prelude.{err_from_is_err_and, refl}
 use Rattle.nc_fields.proofs.Elements.{steps-along, elements-start, elements-err, elements-next, elements-memory, elements-done}
 use Rattle.nc_fields.proofs.fields.FieldReader.atts.Goals as goal
 

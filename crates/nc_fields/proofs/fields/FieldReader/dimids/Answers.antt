@@ -1,5 +1,4 @@
-use Rattle.std.proofs.Common.{ap, sym, ◌==◌}
-use Rattle.nc_fields.proofs.Prelude.{dimid_part, err_from_is_err_and}
+use Rattle.nc_fields.proofs.Prelude.{dimid_part, err_from_is_err_and, ap, sym, ◌==◌}
 use Rattle.nc_fields.proofs.Elements.{elements-start, elements-err, elements-next, elements-memory, elements-done}
 use Rattle.nc_fields.proofs.fields.FieldReader.dimids.Goals as goal
 

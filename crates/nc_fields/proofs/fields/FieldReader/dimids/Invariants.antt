@@ -1,5 +1,4 @@
-use Rattle.std.proofs.Common.{◌∷◌}
-use Rattle.nc_fields.proofs.Prelude.{at, Shape, dimid_after, owner_steps}
+use Rattle.nc_fields.proofs.Prelude.{at, Shape, dimid_after, owner_steps, ◌∷◌}
 use Rattle.nc_fields.proofs.Elements.{ChecksOn}
 use Rattle.nc_fields.proofs.fields.FieldReader.dimids.Given as goal
 

@@ -1,5 +1,4 @@
-use Rattle.std.proofs.Common.{ap, rules, sym}
-use Rattle.nc_fields.proofs.Prelude.{dim_part, has_record_dim, has_record-next, err_from_is_err_and, lenient}
+use Rattle.nc_fields.proofs.Prelude.{dim_part, has_record_dim, has_record-next, err_from_is_err_and, lenient, ap, rules, sym}
 use Rattle.nc_fields.proofs.Elements.{elements-start, elements-err, elements-next, elements-memory, elements-done}
 use Rattle.nc_fields.proofs.fields.FieldReader.dims.Goals as goal
 

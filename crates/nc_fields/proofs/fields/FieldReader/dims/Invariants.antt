@@ -1,5 +1,4 @@
-use Rattle.std.proofs.Common.{◌≡◌, ◌∷◌, []}
-use Rattle.nc_fields.proofs.Prelude.{at, Dims, dim_after, has_record_dim, lenient}
+use Rattle.nc_fields.proofs.Prelude.{at, Dims, dim_after, has_record_dim, lenient, ◌≡◌, ◌∷◌, []}
 use Rattle.nc_fields.proofs.Elements.{ChecksOn}
 use Rattle.nc_fields.proofs.fields.FieldReader.dims.Given as goal
 

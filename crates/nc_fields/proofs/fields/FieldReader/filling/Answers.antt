@@ -1,5 +1,4 @@
-use Rattle.std.proofs.Common.{refl, Ok, Err, []}
-use Rattle.nc_fields.proofs.Prelude.{err_from_is_err_and, OutOfMemory}
+use Rattle.nc_fields.proofs.Prelude.{err_from_is_err_and, OutOfMemory, refl, Ok, Err, []}
 use Rattle.nc_fields.proofs.Checks.{listed-whole, listed-memory, listed-cut}
 use Rattle.nc_fields.proofs.Texts.{filling-listed, ignored-checked}
 use Rattle.nc_fields.proofs.fields.FieldReader.filling.Goals as goal

@@ -1,5 +1,4 @@
-use Rattle.std.proofs.Common.{ap}
-use Rattle.nc_fields.proofs.Prelude.{err_from_is_err_and}
+use Rattle.nc_fields.proofs.Prelude.{err_from_is_err_and, ap}
 use Rattle.nc_fields.specs.declared.entry.Content.TheVariants as content
 use Rattle.nc_fields.proofs.Letters.{letters-answer, listed-letters, letters-memory, cut-letters}
 use Rattle.nc_fields.proofs.fields.FieldReader.listed_letters.Goals as goal

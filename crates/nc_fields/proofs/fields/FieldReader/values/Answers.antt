@@ -1,5 +1,4 @@
-use Rattle.std.proofs.Common.{refl, ap}
-use Rattle.nc_fields.proofs.Prelude.{err_from_is_err_and, in_place}
+use Rattle.nc_fields.proofs.Prelude.{err_from_is_err_and, in_place, refl, ap}
 use Rattle.nc_fields.specs.declared.entry.Content.TheVariants as content
 use Rattle.nc_fields.proofs.Checks.{listed-whole, listed-memory, listed-cut}
 use Rattle.nc_fields.proofs.Texts.{values-listed}

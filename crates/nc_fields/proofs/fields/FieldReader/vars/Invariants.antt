@@ -1,5 +1,4 @@
-use Rattle.std.proofs.Common.{◌≡◌, ◌∷◌, []}
-use Rattle.nc_fields.proofs.Prelude.{at, Vars, var_after, total_of, lenient}
+use Rattle.nc_fields.proofs.Prelude.{at, Vars, var_after, total_of, lenient, ◌≡◌, ◌∷◌, []}
 use Rattle.nc_fields.proofs.Elements.{ChecksOn}
 use Rattle.nc_fields.proofs.fields.FieldReader.vars.Given as goal
 

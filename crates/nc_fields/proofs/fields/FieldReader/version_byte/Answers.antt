@@ -1,5 +1,4 @@
-use Rattle.std.proofs.Common.{refl}
-use Rattle.nc_fields.proofs.Prelude.{err_from_is_err_and}
+use Rattle.nc_fields.proofs.Prelude.{err_from_is_err_and, refl}
 use Rattle.nc_fields.proofs.Checks.{listed-whole, listed-memory, listed-cut}
 use Rattle.nc_fields.proofs.Texts.{version-listed}
 use Rattle.nc_fields.proofs.fields.FieldReader.version_byte.Goals as goal

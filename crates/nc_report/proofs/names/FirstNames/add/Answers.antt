@@ -1,4 +1,4 @@
-use Rattle.std.proofs.Common.{◌∙◌, sym}
+use Rattle.nc_report.proofs.Prelude.{◌∙◌, sym}
 use Rattle.nc_report.proofs.NameKeys.{LentKey, index-found, added-new, added-again}
 use Rattle.nc_report.proofs.names.FirstNames.add.Goals as goal
 

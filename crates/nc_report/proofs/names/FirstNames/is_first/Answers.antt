@@ -1,5 +1,4 @@
-use Rattle.std.proofs.Common.{◌≡◌, ◌∙◌, ap, sym, None, Some}
-use Rattle.nc_report.proofs.Prelude.{option_copied, is_index, index_of}
+use Rattle.nc_report.proofs.Prelude.{option_copied, is_index, index_of, ◌≡◌, ◌∙◌, ap, sym, None, Some}
 use Rattle.nc_report.proofs.NameKeys.{index-found}
 use Rattle.nc_report.proofs.names.FirstNames.is_first.Goals as goal
 
