@@ -247,7 +247,7 @@ ROWS = [
     Row("ncgen, octal ints", VALUE, 719, lambda: a_value(numbers(0, 2**20, form="0{:o}"))),
     Row("ncgen, a string of escapes", TEXT_BYTE, 101, lambda: a_byte(string(r"\n\t\x41\"\\\101" * 50_000, 300_000))),
     Row("ncgen, a string of letters and escapes", TEXT_BYTE, 90, lambda: a_byte(string(r"a\n" * 300_000, 600_000))),
-    Row("ncgen, a string with an escape in nine", TEXT_BYTE, 15, lambda: a_byte(string(r"abcdefgh\"ijklmnop\t" * 50_000, 900_000))),
+    Row("ncgen, a string with an escape in nine", TEXT_BYTE, 13, lambda: a_byte(string(r"abcdefgh\"ijklmnop\t" * 50_000, 900_000))),
     Row("ncgen, an attribute of ints", AS_VALUES, 2, lambda: read_as_values("int", "", -(10**6), 10**6)),
     Row("ncgen, an attribute of shorts", AS_VALUES, 2.5, lambda: read_as_values("short", "s", -(2**15), 2**15)),
     Row("ncgen, 20,000 dimensions", HEAVIEST, 25, lambda: in_heaviest(text(parts("\tdim_{:05} = 1 ;\n"), "", ""))),

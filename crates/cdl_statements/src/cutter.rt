@@ -34,7 +34,7 @@ pub struct Cutter<'a> {
 
 impl<'a> Cutter<'a> {
     ghost use Rattle.cdl_statements.specs.code.Cutters.{BeginsWith, HandsOut, PassesToken, PassesWord, SameText, after, first_line, is_done, next_token, offset_of, pieces_left, text_of, version_of};
-    ghost use Rattle.cdl_statements.specs.code.ListedTokens.{EndsAtScanner, IsAtComma, Passes, PassesString};
+    ghost use Rattle.cdl_statements.specs.code.ListedTokens.{EndsAtScanner, IsAtComma, Passes};
     ghost use Rattle.cdl_statements.specs.code.Views.{lexeme_of};
 
     /// Creates a cutter at the start of a text, which is read for this version of the format.
@@ -141,28 +141,11 @@ impl<'a> Cutter<'a> {
     }
 
     /// Returns true only if the next token is a comma inside of a statement: neither its first token nor after the closing brace. Then
-    /// [`token_and_comma`](Cutter::token_and_comma) and [`string_and_comma`](Cutter::string_and_comma) may be called.
+    /// [`token_and_comma`](Cutter::token_and_comma) may be called.
     pub fn is_at_comma(&self) -> bool
         ensures { result ≡ true → IsAtComma self.now }
     {
         !self.done && is_inside(self.state) && self.lexeme().is_mark(b',')
-    }
-
-    /// Looks, after the comma that the cutter is at, for a string without an escape or a line feed and then a second comma, with only white
-    /// space between the three. If they are there, moves to the second comma, and returns the string's bytes with the quotes. Otherwise
-    /// returns `None` (no clause says when), and the cutter stays where it is. Needs a cutter at a comma
-    /// ([`is_at_comma`](Cutter::is_at_comma)). Does not allocate.
-    #[inline(always)]
-    pub fn string_and_comma(&mut self) -> Option<&'a [u8]>
-        requires { IsAtComma self.old }
-        ensures passes { IfSome result (λ bytes. PassesString self.old self.new bytes.now) }
-        ensures stays { result ≡ None → self.new ≡ self.old }
-    {
-        let mut scanner = self.scanner;
-        let listed = scanner.string_and_comma()?;
-        let bytes = listed.token.bytes(self.scanner.text());
-        self.move_to_comma(listed.comma, scanner);
-        Some(bytes)
     }
 
     /// Looks, after the comma that the cutter is at, for a token of the role `Other` (no opening, no word of a section, none of `: ; }`)

@@ -1,7 +1,7 @@
 //! The plain numbers and fill values of a list, one after the other.
 
 ghost use Rattle.std.specs.Prelude.{◌≡◌, IfSome, None, false, true};
-ghost use Rattle.cdl_statements.specs.code.ListedTokens.{EndsAtScanner, IsAtComma, PassesNumber, PassesUnderscore};
+ghost use Rattle.cdl_statements.specs.code.ListedTokens.{EndsAtScanner, IsAtComma, PassesNumber, PassesString, PassesUnderscore};
 ghost use Rattle.cdl_statements.specs.code.NumberLists.{SamePlace, reached};
 
 use crate::cutter::Cutter;
@@ -59,6 +59,20 @@ impl<'a> NumberList<'a> {
             Some(_) => true,
             None => false,
         }
+    }
+
+    /// If a string without an escape or a line feed and a comma come next, with only white space before each, passes both and returns the
+    /// bytes between the string's quotes. Otherwise returns `None`, and the list stays where it is. Needs a list that began at a comma
+    /// inside of a statement. Does not allocate.
+    #[inline(always)]
+    pub fn string_and_comma(&mut self) -> Option<&'a [u8]>
+        requires { IsAtComma (reached self.old) }
+        ensures passes { IfSome result (λ bytes. PassesString (reached self.old) (reached self.new) bytes.now) }
+        ensures stays { result ≡ None → self.new ≡ self.old }
+    {
+        let text = self.scanner.text();
+        let listed = self.scanner.string_and_comma()?;
+        Some(&text[listed.token.first + 1..listed.token.past - 1])
     }
 
     /// Returns the cutter at the comma that was read last, or at the first comma if no value was read. Needs a list that began at a comma

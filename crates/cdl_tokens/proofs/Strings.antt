@@ -1,8 +1,12 @@
 -- A string, one character on.
-use Rattle.std.proofs.Common.{◌≡◌, ℕ, suc, ◌-◌, ◌<◌, ◌≤◌, true, false, List, [], ◌∷◌, ◌++◌, length, take, drop, sym, ◌∙◌, ap, refl, arith, ◌==◌, map, Option, Some, is_some, unwrap_or, rules}
-use Rattle.cdl_tokens.proofs.Prelude.{list_all, prefix_len, plain_escape, append-nil, at_drop_all, take_all, unescape, unescape_at, character, string_value, is_unescaped}
+use Rattle.std.proofs.Common.{◌≡◌, ℕ, zero, suc, ◌+◌, ◌-◌, ◌<◌, ◌≤◌, true, false, List, [], ◌∷◌, ◌++◌, length, take, drop, sym, ◌∙◌, ap, refl, arith, ◌==◌, map, Option, Some, is_some, unwrap_or, min, set, append_assoc}
+use Rattle.std.proofs.Math.Seq.{take-append-add}
+use Rattle.std.proofs.lemmas.List.{drop_min, length-take, take_more_set}
+use Rattle.std.proofs.lemmas.List.Folds.{prefix_len-append}
+use Rattle.cdl_tokens.proofs.Prelude.{list_all, prefix_len, prefix_len-le-length, plain_escape, append-nil, at_drop_all, length-take-le, take-append-drop, take-take, take_all, unescape, unescape_at, character, string_value, is_unescaped}
+use Rattle.cdl_tokens.specs.code.Unescaping.{with_rest}
 use Rattle.cdl_tokens.specs.declared.scan.Character.{Character}
-use Rattle.cdl_tokens.proofs.Steps.{drop_some, drop_one_more, take_one_more}
+use Rattle.cdl_tokens.proofs.Steps.{drop_some}
 
 abbrev pub or_zero : Option ℕ → ℕ
 or_zero b = unwrap_or b 0
@@ -37,17 +41,15 @@ character_unescaped b bs off = rw (off) refl
 pub unescape_unescaped : (b : ℕ) (bs : List ℕ) → (b == 0x5c) ≡ false → unescape (b ∷ bs) ≡ Some b ∷ unescape bs
 unescape_unescaped b bs off = unescape_at_start b bs (record { value = Some b; len = 1 }) (sym (character_unescaped b bs off)) (omega arith)
 
-unescape_after : (bs : List ℕ) → unescape bs ≡ bytes (take (prefix_len is_unescaped bs) bs) ++ unescape (drop (prefix_len is_unescaped bs) bs)
-unescape_after [] = refl
-unescape_after (b ∷ bs) = search (rules, bytes, unescape_unescaped, drop_one_more, take_one_more, unescape_after bs)
-
-unescape_run : (bs : List ℕ) (n : ℕ) → n ≡ prefix_len is_unescaped bs → unescape bs ≡ bytes (take n bs) ++ unescape (drop n bs)
-unescape_run bs n is = unescape_after bs ∙ ap (λ m. bytes (take m bs) ++ unescape (drop m bs)) (sym is)
+unescape_run : (bs : List ℕ) (n : ℕ) → n ≤ prefix_len is_unescaped bs → unescape bs ≡ bytes (take n bs) ++ unescape (drop n bs)
+unescape_run bs zero within = refl
+unescape_run [] (suc n) within = absurd (let e : suc n ≤ 0 = within in omega (arith, e))
+unescape_run (b ∷ bs) (suc n) within = grind (arith, unescape_unescaped b bs, unescape_run bs n)
 
 -- bytes without a backslash stand for themselves
 pub plain_unescaped : (bs : List ℕ) → prefix_len is_unescaped bs ≡ length bs → unescape bs ≡ bytes bs
 plain_unescaped bs all =
-    grind (arith, unescape_run bs (length bs) (sym all), bytes (take (length bs) bs), unescape_past bs (length bs), append-nil (bytes (take (length bs) bs)), take_all (length bs) bs)
+    grind (arith, unescape_run bs (length bs) (omega (arith, all)), bytes (take (length bs) bs), unescape_past bs (length bs), append-nil (bytes (take (length bs) bs)), take_all (length bs) bs)
 
 -- ---- whether it is a string
 
@@ -67,8 +69,30 @@ stands_of (b ∷ bs) os = ap (λ xs. b ∷ xs) (stands_of bs os)
 pub stands_for : (raw bs : List ℕ) → unescape raw ≡ bytes bs → string_value raw ≡ bs
 stands_for raw bs is = ap (map or_zero) (is ∙ sym (append-nil (bytes bs))) ∙ stands_of bs [] ∙ append-nil bs
 
-pub stands_run : (bs : List ℕ) (n : ℕ) → n ≡ prefix_len is_unescaped bs → string_value bs ≡ take n bs ++ string_value (drop n bs)
-stands_run bs n is = ap (map or_zero) (unescape_run bs n is) ∙ stands_of (take n bs) (unescape (drop n bs))
+pub stands_run : (bs : List ℕ) (n : ℕ) → n ≤ prefix_len is_unescaped bs → string_value bs ≡ take n bs ++ string_value (drop n bs)
+stands_run bs n within = ap (map or_zero) (unescape_run bs n within) ∙ stands_of (take n bs) (unescape (drop n bs))
+
+-- ---- put into a buffer
+
+-- the first of these bytes, as far as they were copied
+copied_part : (old new bs : List ℕ) (at n run : ℕ) → take (at + n) new ≡ take at old ++ take n bs → at ≤ length old → run ≤ n → take (at + run) new ≡ take at old ++ take run bs
+copied_part old new bs at n run copied room few =
+    let long : at + run ≡ length (take at old) + run = omega (arith, length-take-le at old room) in
+    sym (take-take (at + run) (at + n) new (omega arith)) ∙ ap (take (at + run)) copied ∙ ap (λ m. take m (take at old ++ take n bs)) long
+    ∙ take-append-add (take at old) (take n bs) run ∙ ap (λ xs. take at old ++ xs) (take-take run n bs few)
+
+pub run_put : (old new bs : List ℕ) (at n run : ℕ) → take (at + n) new ≡ take at old ++ take n bs → at ≤ length old → run ≡ prefix_len is_unescaped (take n bs) →
+    with_rest new (at + run) (drop run bs) ≡ with_rest old at bs
+run_put old new bs at n run copied room is =
+    let few : run ≤ n = omega (arith, prefix_len-le-length is_unescaped (take n bs), length-take n bs) in
+    let within : run ≤ prefix_len is_unescaped bs = grind (arith, prefix_len-append is_unescaped (take n bs) (drop n bs), take-append-drop n bs) in
+    ap (λ xs. xs ++ string_value (drop run bs)) (copied_part old new bs at n run copied room few) ∙ append_assoc (take at old) (take run bs) (string_value (drop run bs))
+    ∙ ap (λ xs. take at old ++ xs) (sym (stands_run bs run within))
+
+pub character_put : (old bs : List ℕ) (at : ℕ) (c : Character) → at < length old → 0 < length bs → c ≡ character bs → 0 < c.len →
+    with_rest (set old at (or_zero c.value)) (at + 1) (drop (min c.len (length bs)) bs) ≡ with_rest old at bs
+character_put old bs at c room first is some =
+    rw (take_more_set old at (or_zero c.value) room, drop_min c.len bs, unescape_first bs c first is some) (append_assoc (take at old) (or_zero c.value ∷ []) (string_value (drop c.len bs)))
 
 pub plain_small : (b : ℕ) → b < 256 → plain_escape b < 256
 plain_small b h = grind (arith, h)

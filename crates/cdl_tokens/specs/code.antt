@@ -1,3 +1,4 @@
 pub mod Scanners
 pub mod Magnitudes
 pub mod PlainTokens
+pub mod Unescaping

@@ -30,6 +30,7 @@ mod search;
 mod string;
 mod token;
 mod underscore;
+mod unescaped;
 
 pub use bytes::{byte_at, first_bytes, is_escape};
 pub use escape::{character, len_before_escape};
@@ -37,3 +38,4 @@ pub use numeral::{Numeral, number_of_token};
 pub use scan::{Character, Scanned};
 pub use scanner::{ListedNumber, ListedToken, Scanner};
 pub use token::{Token, TokenKind};
+pub use unescaped::{Unescaped, gather_unescaped};

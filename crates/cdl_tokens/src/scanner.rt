@@ -126,7 +126,10 @@ impl<'a> Scanner<'a> {
     pub fn string_and_comma(&mut self) -> Option<ListedToken>
         ensures tokens { IfSome result (λ l. left self.old ≡ l.token ∷ l.comma ∷ left self.new) }
         ensures plain { IfSome result (λ l. IsPlainString (text_of self.old) l.token) }
+        ensures quoted { IfSome result (λ l. l.token.first + 2 ≤ l.token.past) }
+        ensures within { IfSome result (λ l. l.token.past ≤ length (text_of self.old)) }
         ensures comma { IfSome result (λ l. IsComma (text_of self.old) l.comma) }
+        ensures before { IfSome result (λ l. l.comma ≡ comma_before self.new) }
         ensures text { text_of self.new ≡ text_of self.old }
         ensures moves { IfSome result (λ l. offset_of self.old < offset_of self.new) }
         ensures stays { result ≡ None → self.new ≡ self.old }
@@ -393,6 +396,8 @@ impl<'a> Scanner<'a> {
     fn plain_string(&mut self, is_long: bool) -> Option<Token>
         ensures token { IfSome result (λ t. left self.old ≡ t ∷ left self.new) }
         ensures plain { IfSome result (λ t. IsPlainString (text_of self.old) t) }
+        ensures quoted { IfSome result (λ t. t.first + 2 ≤ t.past) }
+        ensures within { IfSome result (λ t. t.past ≤ length (text_of self.old)) }
         ensures text { text_of self.new ≡ text_of self.old }
         ensures moves { IfSome result (λ t. offset_of self.old < offset_of self.new) }
         ensures stays { result ≡ None → self.new ≡ self.old }

@@ -8,7 +8,7 @@ ghost use Rattle.cdl_tokens.specs.code.Scanners.{goes_on, is_stop};
 use std::simd::prelude::*;
 
 /// The number of bytes that [`near_len`] tests at once.
-const LANES: usize = 16;
+pub const LANES: usize = 16;
 
 /// The number of bytes that [`far_len`] and [`count_of`] test at once.
 const BLOCK: usize = 64;

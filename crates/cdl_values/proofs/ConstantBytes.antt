@@ -59,12 +59,9 @@ first_ones (suc n) (b ∷ bs) h = by (first_ones n bs (after_first b bs h))
     by rest (suc k) = rest k
 
 -- bytes that stand for themselves
-bytes_stay : (bs : List ℕ) → AreBytes bs → char_bytes bs ≡ bs
+pub bytes_stay : (bs : List ℕ) → AreBytes bs → char_bytes bs ≡ bs
 bytes_stay [] h = refl
 bytes_stay (b ∷ bs) h = one_char b bs (h 0) ∙ ap (λ xs. b ∷ xs) (bytes_stay bs (after_first b bs h))
-
-pub first_stay : (n : ℕ) (bs : List ℕ) → AreBytes bs → char_bytes (take n bs) ≡ take n bs
-first_stay n bs h = bytes_stay (take n bs) (first_ones n bs h)
 
 chars_joined : (xs ys : List ℕ) → char_bytes (xs ++ ys) ≡ char_bytes xs ++ char_bytes ys
 chars_joined [] ys = refl

@@ -1,6 +1,6 @@
 -- A run of values, one value on.
-use Rattle.std.proofs.Common.{◌≡◌, ℕ, Bool, true, false, List, [], ◌∷◌, ◌++◌, sym, ap, ◌∙◌, refl, subst, None, Ok, rules}
-use Rattle.cdl_values.proofs.Prelude.{Version, inner, string_value, value_of, values, is_done, version_of, words, completes, is_value_of, next, Lexeme, IsAtComma, Passes, PassesNumber, PassesString, PassesUnderscore, Characters, token_fault, lexeme_with, Cutter, Due, Separator, at_same_comma, same_after, same_words, good_on, Capacity, bytes_of, bytes_of_number, held_bytes, is_full, joined, capacity_minus, packed, row_bytes, GoesOn, Place, TakesValues, Fill, ValueForm, Numbers, Rows, past_mark}
+use Rattle.std.proofs.Common.{◌≡◌, ℕ, Bool, true, false, List, [], ◌∷◌, ◌++◌, sym, ap, refl, subst, None, Ok, rules}
+use Rattle.cdl_values.proofs.Prelude.{Version, value_of, values, is_done, version_of, words, completes, is_value_of, next, Lexeme, IsAtComma, Passes, PassesNumber, PassesString, PassesUnderscore, Characters, token_fault, lexeme_with, Cutter, Due, Separator, at_same_comma, same_after, same_words, good_on, Capacity, bytes_of, bytes_of_number, held_bytes, is_full, joined, capacity_minus, packed, row_bytes, GoesOn, Place, TakesValues, Fill, ValueForm, Numbers, Rows, past_mark}
 use Rattle.cdl_tokens.specs.declared.numeral.Numeral.{Numeral}
 use Rattle.cdl_tokens.specs.declared.token.TokenKind.TheVariants as kinds
 use Rattle.cdl_statements.specs.code.NumberLists as lists
@@ -65,14 +65,14 @@ fill_on fill start rest at passes full adds left =
     value_on true (Numbers fill) start rest l at passes refl refl (λ ls. token_packed v (Numbers fill) start.left rest.left l ls start.bytes rest.bytes refl sum left)
 
 -- a row more
-pub row_on : (takes_fill : Bool) (len fill : ℕ) (start rest : Place) (bytes : List ℕ) → IsAtComma start.cutter → PassesString start.cutter rest.cutter bytes → is_full start.left ≡ false →
-    joined (Ok start.bytes) (row_bytes len fill false (Characters (string_value (inner bytes)))) ≡ Ok rest.bytes → rest.left ≡ capacity_minus 1 start.left → TakesValues takes_fill (Rows len fill) start rest
+pub row_on : (takes_fill : Bool) (len fill : ℕ) (start rest : Place) (characters : List ℕ) → IsAtComma start.cutter → PassesString start.cutter rest.cutter characters → is_full start.left ≡ false →
+    joined (Ok start.bytes) (row_bytes len fill false (Characters characters)) ≡ Ok rest.bytes → rest.left ≡ capacity_minus 1 start.left → TakesValues takes_fill (Rows len fill) start rest
 unfolding value_of
-row_on takes_fill len fill start rest bytes at passes full adds left =
+row_on takes_fill len fill start rest characters at passes full adds left =
     let v = version_of start.cutter in
-    let l = lexeme_with kinds.Text bytes in
+    let l = lexeme_with kinds.Text passes.bytes in
     let sum : joined (Ok start.bytes) (bytes_of (Rows len fill) start.left (value_of v l kinds.Text)) ≡ Ok rest.bytes =
-    ap (λ b. joined (Ok start.bytes) (row_bytes len fill b (Characters (string_value (inner bytes))))) full ∙ adds in
+    rw (full, passes.plain) adds in
     value_on takes_fill (Rows len fill) start rest l at passes.passes refl refl (λ ls. token_packed v (Rows len fill) start.left rest.left l ls start.bytes rest.bytes refl sum left)
 
 -- the same place

@@ -7,3 +7,4 @@ pub mod DataRead
 pub mod Meant
 pub mod ValueRuns
 pub mod TokenValues
+pub mod Unescaping

@@ -1,21 +1,24 @@
 //! The bytes that strings stand for, in attributes and in the data section.
 
-ghost use Rattle.std.specs.Prelude.{◌≡◌, ◌++◌, ◌≤◌, Err, IfOk, OnOk, length, take, false, true};
-ghost use Rattle.std.specs.List.{prefix_len};
+ghost use Rattle.std.specs.Prelude.{◌≡◌, ◌++◌, ◌≤◌, ◌<◌, Err, IfOk, OnOk, length, false, true};
 ghost use Rattle.cdl_tokens.specs.Escapes.{inner, string_value};
-ghost use Rattle.cdl_tokens.specs.code.Scanners.{is_unescaped};
+ghost use Rattle.cdl_statements.specs.Shapes.{Characters};
 ghost use Rattle.cdl_statements.specs.declared.fault.CdlKind.TheVariants.{TooManyValues};
 ghost use Rattle.cdl_values.specs.code.Answers.{Adds};
 ghost use Rattle.cdl_values.specs.code.PackedValues.{char_bytes, row_bytes, text_bytes};
 ghost use Rattle.cdl_values.specs.code.TokenValues.{text_said};
+ghost use Rattle.cdl_values.specs.code.Unescaping.{with_rest};
 ghost use Rattle.cdl_values.specs.declared.read_error.ReadError.TheVariants.{Fault};
 
 use crate::capacity::Capacity;
 use crate::read_error::ReadError;
 use cdl_statements::CdlKind;
-use cdl_tokens::{character, first_bytes, len_before_escape};
+use cdl_tokens::{first_bytes, gather_unescaped, len_before_escape};
 use nc_base::ListedArray;
 use std::alloc::AllocError;
+
+/// How many bytes of a string with escapes are appended at once.
+const AT_ONCE: usize = 256;
 
 /// Appends to `array` the bytes that a string stands for, so that strings are joined: unlike [`put_row`], it fills up no row. `bytes` is
 /// the string with its quotes, and `capacity` is how many more bytes the variable takes. Errs with `StringTooLong` if the string stands for
@@ -64,25 +67,23 @@ pub fn put_row(
     Ok(())
 }
 
-/// Appends to `array` a row of `len` bytes, filled up with `fill`, as [`put_row`] does, but looks neither for escapes nor at the capacity.
-/// `bytes` is the string with its quotes. Needs a string in which each byte between the quotes stands for itself, and a variable that takes
-/// one more row. Errs with `StringTooLong` if there are more than `len` bytes between the quotes (nothing is appended then), and with
-/// `OutOfMemory` if an allocation failed (the bytes may be appended then).
+/// Appends to `array` a row of `len` bytes: `characters`, filled up with `fill`. It is [`put_row`] for a string in which each byte between
+/// the quotes stands for itself, and a variable that takes one more row. Errs with `StringTooLong` if there are more than `len` characters
+/// (nothing is appended then), and with `OutOfMemory` if an allocation failed (the characters may be appended then).
+#[tactic(auto, using(std::proofs::lemmas::Grind::common_steps))]
 pub fn put_plain_row(
     array: &mut ListedArray,
     len: u64,
     fill: u8,
-    bytes: &[u8],
+    characters: &[u8],
 ) -> Result<(), ReadError>
-    requires { string_value (inner bytes.now) ≡ inner bytes.now }
-    ensures { Adds array.old array.new result (row_bytes len fill false (text_said bytes.now)) }
+    ensures { Adds array.old array.new result (row_bytes len fill false (Characters characters.now)) }
 {
-    let characters = inner(bytes);
     let n = characters.len() as u64;
     if len < n {
         return Err(ReadError::Fault(CdlKind::StringTooLong));
     }
-    array.add(characters)?;
+    put_bytes(array, characters)?;
     array.end_row(len - n, fill)?;
     Ok(())
 }
@@ -94,32 +95,44 @@ fn put_string(array: &mut ListedArray, raw: &[u8]) -> Result<(), AllocError>
 {
     let mut rest = raw;
     'escapes: loop {
-        let n = put_unescaped(array, rest)?;
-        let (_, escape) = rest.split_at(n);
+        let escape = put_unescaped(array, rest)?;
         if escape.is_empty() {
             return Ok(());
         }
-        let found = character(escape);
-        array.add_byte(found.value.unwrap_or(0))?;
-        if found.len > escape.len() {
-            return Ok(());
-        }
-        let (_, after) = escape.split_at(found.len);
-        rest = after;
+        rest = put_gathered(array, escape)?;
     }
 }
 
-/// Appends to `array` the bytes before the first backslash, or all if there is none, and returns how many it appended. Errs only if an
-/// allocation failed; nothing is appended then.
-fn put_unescaped(array: &mut ListedArray, bytes: &[u8]) -> Result<usize, AllocError>
-    ensures put { IfOk result (λ n. array.new ≡ array.old ++ char_bytes (take n bytes.now)) }
-    ensures len { IfOk result (λ n. n ≡ prefix_len is_unescaped bytes.now) }
-    ensures within { IfOk result (λ n. n ≤ length bytes.now) }
+/// Appends to `array` the bytes of a string before the first backslash, or all if there is none, and returns those from it on. Errs only if
+/// an allocation failed; nothing is appended then.
+fn put_unescaped<'a>(array: &mut ListedArray, bytes: &'a [u8]) -> Result<&'a [u8], AllocError>
+    ensures put { IfOk result (λ r. with_rest array.new r.now ≡ with_rest array.old bytes.now) }
+    ensures shorter { IfOk result (λ r. length r.now ≤ length bytes.now) }
 {
-    let n = len_before_escape(bytes);
-    let (first, _) = bytes.split_at(n);
-    array.add(first)?;
-    Ok(n)
+    let (first, rest) = bytes.split_at(len_before_escape(bytes));
+    put_bytes(array, first)?;
+    Ok(rest)
+}
+
+/// Appends to `array` the bytes that the first characters of a string stand for, all in one piece, and returns the string's bytes after
+/// these characters. Errs only if an allocation failed; nothing is appended then.
+fn put_gathered<'a>(array: &mut ListedArray, bytes: &'a [u8]) -> Result<&'a [u8], AllocError>
+    requires { 0 < length bytes.now }
+    ensures put { IfOk result (λ r. with_rest array.new r.now ≡ with_rest array.old bytes.now) }
+    ensures shorter { IfOk result (λ r. length r.now < length bytes.now) }
+{
+    let mut text = [0; AT_ONCE];
+    let gathered = gather_unescaped(&mut text, bytes);
+    put_bytes(array, &text[..gathered.end])?;
+    Ok(gathered.rest)
+}
+
+/// Appends to `array` these characters. Errs only if an allocation failed; nothing is appended then.
+#[inline(always)]
+fn put_bytes(array: &mut ListedArray, characters: &[u8]) -> Result<(), AllocError>
+    ensures { OnOk result (array.new ≡ array.old ++ char_bytes characters.now) }
+{
+    array.add(characters)
 }
 
 /// Returns the bytes between the quotes of the string `bytes`, or an empty slice if `bytes` is too short to have two quotes.

@@ -187,8 +187,8 @@ fn put_next_number(
 
 /// Appends to `array` the plain strings (no escape, no line feed) that come next, each as a row of `len` bytes filled up with `fill`, and
 /// returns what is unread after them. Stops before the first value that isn't a plain string with a comma after it, and when the capacity
-/// is used up. Needs a cutter at a comma. Errs with `Unnamed` if a string has more than `len` bytes, and with `OutOfMemory` if an
-/// allocation failed; the rows before stay appended.
+/// is used up. Needs a cutter at a comma, with its scanner just after this comma. Errs with `Unnamed` if a string has more than `len`
+/// bytes, and with `OutOfMemory` if an allocation failed; the rows before stay appended.
 #[inline(never)]
 fn take_rows<'a>(
     array: &mut ListedArray,
@@ -196,22 +196,23 @@ fn take_rows<'a>(
     len: u64,
     fill: u8,
 ) -> Result<UnreadValues<'a>, QuickPassFault>
-    requires { IsAtComma start.cutter }
+    requires at { IsAtComma start.cutter }
+    requires ends { EndsAtScanner start.cutter }
     ensures { TakesPlain (ValueForm.Rows len fill) (place start.entry array.old) array.new result }
 {
     let room = start.capacity.limit();
-    let mut cutter = start.cutter;
+    let mut list = NumberList::new(start.cutter);
     let mut count = 0;
     'rows: while count < room {
-        match cutter.string_and_comma() {
-            Some(bytes) => {
-                put_plain_row(array, len, fill, bytes)?;
+        match list.string_and_comma() {
+            Some(characters) => {
+                put_plain_row(array, len, fill, characters)?;
                 count += 1;
             }
-            None => return Ok(after_values(cutter, count, start.capacity)),
+            None => return Ok(after_values(list.cutter(), count, start.capacity)),
         }
     }
-    Ok(after_values(cutter, count, start.capacity))
+    Ok(after_values(list.cutter(), count, start.capacity))
 }
 
 /// Returns what is unread from `cutter` on, after `count` values that each take 1 of `capacity`.

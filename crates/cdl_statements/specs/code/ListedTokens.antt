@@ -36,9 +36,10 @@ pub record PassesNumber (start rest : Cutter) (n : Numeral) : Type 0 where
   pub says : (v : Version) → Some n ≡ option_map held (parts v bytes)
   pub passes : Passes start rest (lexeme_with kinds.Number bytes)
 
--- this one is a string with these bytes, which stand for themselves between the quotes
-pub record PassesString (start rest : Cutter) (bytes : List ℕ) : Type 0 where
-  pub plain : string_value (inner bytes) ≡ inner bytes
+-- this one is a string, in which these bytes stand between the quotes, each for itself
+pub record PassesString (start rest : Cutter) (characters : List ℕ) : Type 0 where
+  pub bytes : List ℕ
+  pub plain : string_value (inner bytes) ≡ characters
   pub passes : Passes start rest (lexeme_with kinds.Text bytes)
 
 -- this one is a `_`

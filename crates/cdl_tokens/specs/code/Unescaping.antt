@@ -1,0 +1,7 @@
+-- For contracts. A string whose first characters are put into a buffer as the bytes that they stand for.
+use Rattle.std.specs.Prelude.{ℕ, List, ◌++◌, take}
+use Rattle.cdl_tokens.specs.Escapes.{string_value}
+
+-- the first bytes of the buffer, and those that the rest of the string stands for
+abbrev pub with_rest : List ℕ → ℕ → List ℕ → List ℕ
+with_rest buffer end rest = take end buffer ++ string_value rest
