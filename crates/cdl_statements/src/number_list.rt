@@ -1,4 +1,4 @@
-//! The plain numbers and fill values of a list, one after the other.
+//! The plain numbers, fill values and plain strings of a list, one after the other.
 
 ghost use Rattle.std.specs.Prelude.{◌≡◌, IfSome, None, false, true};
 ghost use Rattle.cdl_statements.specs.code.ListedTokens.{EndsAtScanner, IsAtComma, PassesNumber, PassesString, PassesUnderscore};
@@ -8,7 +8,7 @@ use crate::cutter::Cutter;
 use cdl_tokens::{Numeral, Scanner};
 
 /// Reads the values that come next in a list, from a comma on, as long as each is a plain number (decimal, at most 19 digits, no suffix but
-/// `b`, `s` or `l`) or a `_`.
+/// `b`, `s` or `l`), a `_`, or a plain string (one without an escape or a line feed).
 ///
 /// Only the scanner moves from value to value. The token of the last comma is made once, when the caller leaves the list by
 /// [`cutter`](NumberList::cutter).
