@@ -5,7 +5,7 @@ use Rattle.std.specs.Map.{lookup}
 use Rattle.std.proofs.lemmas.Grind.{common_steps}
 use Rattle.std.proofs.lemmas.List.Folds.{find-append}
 use Rattle.std.proofs.lemmas.Map.Text.{is_eq-slice_cmp}
-use Rattle.nc_report.specs.contracts.names.NameListOrd.TheImpl as lists
+use Rattle.nc_report.specs.contracts.names.NameScopeOrd.TheImpl as lists
 
 -- ---- keys of the map
 
