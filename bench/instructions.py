@@ -240,14 +240,14 @@ ROWS = [
     Row("ncgen, ints with the suffix L", PLAIN, 1.5, lambda: as_plain(numbers(10**5, 10**7, form="{}L"))),
     Row("ncgen, fill values", PLAIN, 1.5, lambda: as_plain(["_"] * MANY)),
     Row("ncgen, ints, three in ten of them missing", PLAIN, 1.5, lambda: as_plain(some_missing(numbers(10**5, 10**7)))),
-    # the goals of the next five: what commit 18b57d0 took, before lists of plain numbers had a way of their own, reckoned from a build
+    # the goals of the next three: what commit 18b57d0 took, before lists of plain numbers had a way of their own, reckoned from a build
     # without proofs, which takes 3 to 7 % more than the program
     Row("ncgen, ubytes with the suffix UB", VALUE, 573, lambda: a_value(numbers(0, 256, form="{}UB"), "ubyte", "nc5")),
     Row("ncgen, hexadecimal ints", VALUE, 693, lambda: a_value(numbers(0, 2**20, form="0x{:x}"))),
     Row("ncgen, octal ints", VALUE, 719, lambda: a_value(numbers(0, 2**20, form="0{:o}"))),
-    Row("ncgen, a string of escapes", TEXT_BYTE, 101, lambda: a_byte(string(r"\n\t\x41\"\\\101" * 50_000, 300_000))),
-    Row("ncgen, a string of letters and escapes", TEXT_BYTE, 90, lambda: a_byte(string(r"a\n" * 300_000, 600_000))),
-    Row("ncgen, a string with an escape in nine", TEXT_BYTE, 13, lambda: a_byte(string(r"abcdefgh\"ijklmnop\t" * 50_000, 900_000))),
+    Row("ncgen, a string of escapes", TEXT_BYTE, 52, lambda: a_byte(string(r"\n\t\x41\"\\\101" * 50_000, 300_000))),
+    Row("ncgen, a string of letters and escapes", TEXT_BYTE, 31, lambda: a_byte(string(r"a\n" * 300_000, 600_000))),
+    Row("ncgen, a string with an escape in nine", TEXT_BYTE, 11, lambda: a_byte(string(r"abcdefgh\"ijklmnop\t" * 50_000, 900_000))),
     Row("ncgen, an attribute of ints", AS_VALUES, 2, lambda: read_as_values("int", "", -(10**6), 10**6)),
     Row("ncgen, an attribute of shorts", AS_VALUES, 2.5, lambda: read_as_values("short", "s", -(2**15), 2**15)),
     Row("ncgen, 20,000 dimensions", HEAVIEST, 25, lambda: in_heaviest(text(parts("\tdim_{:05} = 1 ;\n"), "", ""))),
