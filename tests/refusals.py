@@ -26,7 +26,7 @@ RESERVED = {
     ("cdl_parse/src/dimensions.rt add", "reserve(1)"): "one element, before the name goes into the index",
     ("cdl_parse/src/variables.rt add", "reserve(1)"): "one element, before the name goes into the index",
     ("cdl_parse/src/variables.rt vars_of", "reserve_exact(list.len())"): "the length of a list that is in memory",
-    ("devices/src/output.rt create_file", "with_capacity(self.alloc,HELD_BACK,nothing)"): "a constant",
+    ("devices/src/output.rt create_file", "with_capacity(self.alloc,OUTPUT_BUFFER_LEN,nothing)"): "a constant",
     ("nc_base/src/listed_array.rt append_copies", "resize(len,fill)"): "the bytes that a row lacks, which are then there",
     ("nc_base/src/listed_array.rt into_bytes", "reserve_exact(more)"): "values that are then added; in `parse` alone",
     ("nc_base/src/listed_array.rt to_bytes", "reserve_exact(usize::try_from(len).unwrap_or(usize::MAX).saturating_add(more))"):
