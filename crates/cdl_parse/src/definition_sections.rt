@@ -33,7 +33,8 @@ pub struct Defined<'a> {
 pub fn read_definitions<'a>(alloc: Global, start: Cutter<'a>) -> Result<Defined<'a>, ParseError>
     ensures reads { GivesOrOutOfMemory (run_past start.entry) result (run_from start.entry empty) }
     ensures shaped { IfOk result (λ d. AreShaped d.definitions.dims d.definitions.variables) }
-    ensures ends { IfOk result (λ d. is_done d.rest ≡ false → is_before_data d.definitions.section ≡ false) }
+    ensures ends { IfOk result (λ d. is_done d.rest ≡ false
+        → is_before_data d.definitions.section ≡ false) }
     ensures same { IfOk result (λ d. SameText start.entry d.rest) }
     ensures lines { IfOk result (λ d. closing_of d.rest d.lines
         ≡ closing_line (pieces_left start.entry)) }

@@ -79,7 +79,8 @@ impl ParseError {
 /// the first bad statement; with `TooLarge`, on the closing brace's line, if no statement is bad, but an array is too large or the header
 /// isn't sound; and with `OutOfMemory` if an allocation failed.
 fn read_declared(alloc: Global, text: &[u8], version: Version) -> Result<Declared, ParseError>
-    ensures reads { GivesOrOutOfMemory (λ d. Ok (dataset_of_declared d)) result (meaning text.now version) }
+    ensures reads { GivesOrOutOfMemory (λ d. Ok (dataset_of_declared d)) result
+        (meaning text.now version) }
     ensures one_each { IfOk result (λ d. length d.listed ≡ length d.header.vars) }
 {
     let Contents {

@@ -8,7 +8,7 @@ pub mod DimensionSteps
 pub mod Declarations
 pub mod Sections
 pub mod ListedTokens
-pub mod NumberLists
+pub mod ValueLists
 pub mod PassedValues
 pub mod Prelude
 pub mod InRange

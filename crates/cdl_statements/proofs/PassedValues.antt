@@ -2,7 +2,7 @@
 use Rattle.cdl_statements.proofs.Prelude.{◌≡◌, ℕ, Bool, true, false, List, [], ◌∷◌, refl, sym, ap, ◌∙◌, Option, rules, None, Some, option_map, arith, is_none, CdlKind, Version, parts, number, numeral, token_fault, completes, next, is_value_of, words, version_of, is_done, Cutter, Due, Lexeme, IsAtComma, Passes, SamePlace, lexeme_with, PassesGood, PassesValues, PassesNumber, PassesUnderscore, Separator, held, Numeral}
 use Rattle.std.specs.Option.{is_some}
 use Rattle.cdl_tokens.specs.declared.token.TokenKind.TheVariants as kinds
-use Rattle.cdl_statements.proofs.NumberLists.{at_same_comma, same_after, same_words}
+use Rattle.cdl_statements.proofs.ValueLists.{at_same_comma, same_after, same_words}
 use Rattle.cdl_statements.proofs.ShapeChecks.{good_on}
 
 -- nothing is passed

@@ -1,5 +1,6 @@
 -- The names that proofs of this crate cite from elsewhere, passed on from one place.
-pub use Rattle.std.proofs.Common.{ℕ, suc, List, [], ◌∷◌, ◌++◌, arith, All, take, drop, ◌≡◌, Bool, true, false, refl, ◌∙◌, if◌then◌else◌, rules, ap, Option, None, Some, is_some, sym, is_none, ℤ, ◌&&◌, ◌==◌, append_assoc, map, ◌<◌, slice_index, ◌/◌, ◌%◌, ◌≤◌, nat_le, length, filter, IsTrue, Result, Err, ◌-◌, subst, IfSome, position, Ok, replicate, ◌*◌, ◌||◌, not, nat_lt, subst₂}
+pub use Rattle.std.proofs.Common.{ℕ, suc, List, [], ◌∷◌, ◌++◌, arith, All, take, drop, ◌≡◌, Bool, true, false, refl, ◌∙◌, if◌then◌else◌, rules, ap, Option, None, Some, is_some, sym, is_none, ℤ, ◌&&◌, ◌==◌, append_assoc, map, ◌<◌, slice_index, ◌/◌, ◌%◌, ◌≤◌, nat_le, length, filter, IsTrue, Result, Err, ◌-◌, subst, IfSome, position, Ok, replicate, ◌*◌, ◌||◌, not, nat_lt, subst₂, ◌+◌}
+pub use Rattle.std.specs.Prelude.{⊤}
 pub use Rattle.cdl_statements.specs.Lexemes.{Lexeme, is_end_kind, is_mark, is_mark_kind, is_opening_kind, is_word_kind, lexeme}
 unfoldable pub use Rattle.cdl_statements.specs.Lexemes.{name_of}
 pub use Rattle.cdl_statements.specs.Shapes.{Attribute, Close, DeclareDimensions, Dimension, End, Listed, Enter, Open, Statement, DeclareVariables, Value, Variable, after_member, assigned, at_end, attribute_or_mark, both, constant, constant_of, constants, dimension, dimensions, first_bad, if_so, in_parentheses, is_later, length_of, other_statement, section_mark, token_fault, variables}
@@ -13,7 +14,7 @@ unfoldable pub use Rattle.cdl_statements.specs.code.Cutters.{after, pieces_left,
 pub use Rattle.cdl_statements.specs.code.DueTokens.{is_after, is_length, is_name, is_value_of, next_if, opens_section_after, separator}
 unfoldable pub use Rattle.cdl_statements.specs.code.DueTokens.{completes, next}
 pub use Rattle.cdl_statements.specs.code.ListedTokens.{IsAtComma, Passes, PassesString, PassesNumber, PassesUnderscore}
-pub use Rattle.cdl_statements.specs.code.NumberLists.{SamePlace, reached}
+pub use Rattle.cdl_statements.specs.code.ValueLists.{SamePlace, reached}
 pub use Rattle.cdl_statements.specs.code.Views.{lexeme_of, lexeme_with}
 pub use Rattle.cdl_statements.specs.declared.{cutter.Cutter.Cutter, due.Due.Due, fault.CdlKind.CdlKind, piece.CutState.CutState, piece.Role.Role, piece.Step.Step, section.Section.Section}
 pub use Rattle.cdl_statements.specs.declared.piece.CutState.TheVariants.{Begins, Inside}
@@ -36,7 +37,7 @@ pub use Rattle.cdl_statements.specs.State.{State, Draft, Takes, add_value, chang
 pub use Rattle.nc_base.specs.Sizes.{slab_size, record_size, slab_limit, record_limit, dim_len, is_record_shape, is_record_var, slab_count, array_limit, value_count, product, slab_lens}
 pub use Rattle.cdl_statements.specs.code.PassedValues.{PassesGood, PassesValues}
 pub use Rattle.cdl_statements.specs.declared.fault.CdlKind.TheVariants.{BadName, Syntax}
-pub use Rattle.cdl_statements.specs.declared.number_list.NumberList.{NumberList}
+pub use Rattle.cdl_statements.specs.declared.value_list.ValueList.{ValueList}
 pub use Rattle.nc_base.specs.Headers.{AreDimids, HasWholeValues, IsSound, IsSoundAtt, IsSoundDim, IsSoundNumRecs, IsSoundVar, IsDimid, AreArrays, IsArray}
 pub use Rattle.cdl_statements.specs.declared.due.Due.TheVariants.{DimensionName, Separator}
 pub use Rattle.cdl_tokens.specs.code.Magnitudes.{held}

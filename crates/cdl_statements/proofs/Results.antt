@@ -1,6 +1,5 @@
 -- What holds of what a result has.
-use Rattle.cdl_statements.proofs.Prelude.{◌≡◌, Bool, true, false, List, [], ◌∷◌, arith, IfSome, Option, Result, Ok, Err, in_turn, unless, when, ◌>>=◌, ok_or, CdlKind}
-use Rattle.std.specs.Prelude.{⊤}
+use Rattle.cdl_statements.proofs.Prelude.{◌≡◌, Bool, true, false, List, [], ◌∷◌, arith, IfSome, Option, Result, Ok, Err, in_turn, unless, when, ◌>>=◌, ok_or, CdlKind, ⊤}
 use Rattle.cdl_statements.proofs.Each.{Each}
 
 abbrev pub OkIs : {A F : Type 0} → (A → Type 0) → Result A F → Type 0

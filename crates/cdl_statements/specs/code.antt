@@ -3,6 +3,6 @@ pub mod Views
 pub mod DueTokens
 pub mod Contents
 pub mod ListedTokens
-pub mod NumberLists
+pub mod ValueLists
 pub mod PassedValues
 pub mod ShapesFound

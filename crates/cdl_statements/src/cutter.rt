@@ -169,7 +169,7 @@ impl<'a> Cutter<'a> {
         Some(Lexeme::of(listed.token, text))
     }
 
-    /// Returns a copy of the scanner, which stands after the next token. A [`NumberList`](crate::NumberList) reads on with it.
+    /// Returns a copy of the scanner, which stands after the next token. A [`ValueList`](crate::ValueList) reads on with it.
     #[inline(always)]
     pub(crate) fn scanner(&self) -> Scanner<'a>
         ensures { result ≡ self.now.scanner }

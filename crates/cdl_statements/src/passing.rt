@@ -3,13 +3,13 @@
 ghost use Rattle.std.specs.Prelude.{◌≡◌, ◌<◌, false, true};
 ghost use Rattle.cdl_statements.specs.code.Cutters.{is_done, offset_of};
 ghost use Rattle.cdl_statements.specs.code.ListedTokens.{EndsAtScanner, IsAtComma};
-ghost use Rattle.cdl_statements.specs.code.NumberLists.{reached};
+ghost use Rattle.cdl_statements.specs.code.ValueLists.{reached};
 ghost use Rattle.cdl_statements.specs.code.PassedValues.{PassesGood, PassesValues};
 
 use crate::cutter::Cutter;
 use crate::due::Due;
-use crate::number_list::NumberList;
 use crate::shape_check::token_fault;
+use crate::value_list::ValueList;
 
 /// Moves `cutter` past some of the values of a list that come next, to the comma after the last of them: values without a fault, each with
 /// a comma before and after it. `due` says which token has to come next. If that isn't a separator, or no comma comes next, the cutter
@@ -56,7 +56,7 @@ fn pass_numbers(start: Cutter<'_>, takes_fill: bool) -> Cutter<'_>
     requires ends { EndsAtScanner start }
     ensures { PassesValues takes_fill start.entry result }
 {
-    let mut list = NumberList::new(start);
+    let mut list = ValueList::new(start);
     'numbers: while pass_number(&mut list, takes_fill) {}
     list.cutter()
 }
@@ -64,7 +64,7 @@ fn pass_numbers(start: Cutter<'_>, takes_fill: bool) -> Cutter<'_>
 /// Passes the next value of `list` if it is a plain number with a comma after it, or a `_` with a comma after it and `takes_fill` is true,
 /// and returns true. Otherwise returns false, and the list stays where it is. Needs a list that began at a comma inside of a statement.
 #[inline(always)]
-fn pass_number(list: &mut NumberList<'_>, takes_fill: bool) -> bool
+fn pass_number(list: &mut ValueList<'_>, takes_fill: bool) -> bool
     requires { IsAtComma (reached list.old) }
     ensures passes { result ≡ true → PassesValues takes_fill (reached list.old) (reached list.new) }
     ensures moves { result ≡ true → offset_of (reached list.old) < offset_of (reached list.new) }

@@ -1,7 +1,6 @@
 -- The gaps between tokens: only their first byte can be a line feed.
-use Rattle.std.proofs.Common.{◌≡◌, ℕ, Bool, true, false, cond, List, [], ◌∷◌, take, get_or, sym, ◌∙◌, refl, arith, ◌==◌, not, None, count_by, eqb-true, if◌then◌else◌, rules}
+use Rattle.cdl_tokens.proofs.Prelude.{prefix_len, Scanned, TokenKind, scan, gap, token, ◌≡◌, ℕ, Bool, true, false, cond, List, [], ◌∷◌, take, get_or, sym, ◌∙◌, refl, arith, ◌==◌, not, None, count_by, eqb-true, if◌then◌else◌, rules}
 use Rattle.cdl_tokens.specs.Scan.{begins_comment}
-use Rattle.cdl_tokens.proofs.Prelude.{prefix_len, Scanned, TokenKind, scan, gap, token}
 use Rattle.cdl_tokens.proofs.PlainTokens.{run_flat}
 
 -- if it is a gap, it has a line feed only if that is its first byte

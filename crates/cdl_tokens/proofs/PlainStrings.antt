@@ -1,6 +1,5 @@
 -- What plain strings are.
-use Rattle.std.proofs.Common.{◌≡◌, ℕ, suc, ◌+◌, ◌<◌, Bool, true, List, [], ◌∷◌, length, take, drop, refl, ap, arith, count_by, ⊎_elim, ◌==◌, slice_index, is_some, rules}
-use Rattle.cdl_tokens.proofs.Prelude.{list_all, prefix_len, cases_lt, get_or_past, length-take-le, take-take, inner, string_value, unescape, BeginsString, scan, scan_text, token, len_until, goes_on, is_unescaped, Text}
+use Rattle.cdl_tokens.proofs.Prelude.{list_all, prefix_len, cases_lt, get_or_past, length-take-le, take-take, inner, string_value, unescape, BeginsString, scan, scan_text, token, len_until, goes_on, is_unescaped, Text, ◌≡◌, ℕ, suc, ◌+◌, ◌<◌, Bool, true, List, [], ◌∷◌, length, take, drop, refl, ap, arith, count_by, ⊎_elim, ◌==◌, slice_index, is_some, rules}
 use Rattle.cdl_tokens.specs.declared.search.Stops.TheVariants.{AtStringEnd}
 use Rattle.cdl_tokens.proofs.PlainTokens.{feeds_on, no_opening}
 use Rattle.cdl_tokens.proofs.Steps.{take_one_more}

@@ -1,4 +1,5 @@
 -- The names that proofs of this crate cite from elsewhere, passed on from one place.
+pub use Rattle.std.proofs.Common.{Bool, IsTrue, List, None, Option, Some, [], ap, append_assoc, arith, cond, count_by, drop, eqb-true, false, get_or, if◌then◌else◌, is_none, is_some, length, map, min, nat_lt, not, option_map, refl, rules, set, slice_index, subst, suc, sym, take, true, unwrap_or, zero, ℕ, ⊎_elim, ◌&&◌, ◌*◌, ◌++◌, ◌+◌, ◌-◌, ◌<◌, ◌==◌, ◌^◌, ◌||◌, ◌↔◌, ◌∙◌, ◌∷◌, ◌≡◌, ◌≤◌}
 pub use Rattle.cdl_tokens.specs.Bytes.{may_begin_word, digit_value, goes_on_number, goes_on_word, is_blank, is_digit, is_escape, is_hex, is_mark_byte, is_octal, is_sign, number_in}
 pub use Rattle.cdl_tokens.specs.Escapes.{inner, number_escape, plain_escape, string_value, unescape}
 unfoldable pub use Rattle.cdl_tokens.specs.Escapes.{character, unescape_at, word_value}

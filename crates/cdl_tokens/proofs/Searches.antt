@@ -1,6 +1,5 @@
 -- A search for a backslash or one other byte.
-use Rattle.std.proofs.Common.{◌≡◌, ℕ, Bool, List, arith, ◌&&◌, ◌||◌, ◌==◌, not}
-use Rattle.cdl_tokens.proofs.Prelude.{prefix_len, goes_on, is_ordinary}
+use Rattle.cdl_tokens.proofs.Prelude.{prefix_len, goes_on, is_ordinary, ◌≡◌, ℕ, Bool, List, arith, ◌&&◌, ◌||◌, ◌==◌, not}
 use Rattle.cdl_tokens.specs.declared.search.Stops.TheVariants.{AtEscapeOr}
 
 neither : (a b : Bool) → not (a || b) ≡ (not a && not b)

@@ -1,7 +1,6 @@
 -- Numbers of any length.
-use Rattle.std.proofs.Common.{◌≡◌, ℕ, ◌+◌, ◌-◌, ◌*◌, ◌^◌, ◌<◌, ◌≤◌, true, List, [], ◌∷◌, length, get_or, drop, ◌∙◌, ap, arith, rules, None}
+use Rattle.cdl_tokens.proofs.Prelude.{pow_more, at_drop_more, digit_value, is_digit, number_in, word, ◌≡◌, ℕ, ◌+◌, ◌-◌, ◌*◌, ◌^◌, ◌<◌, ◌≤◌, true, List, [], ◌∷◌, length, get_or, drop, ◌∙◌, ap, arith, rules, None}
 use Rattle.std.proofs.Math.Nat.{mul-le-mul_right, pow-le-pow_right}
-use Rattle.cdl_tokens.proofs.Prelude.{pow_more, at_drop_more, digit_value, is_digit, number_in, word}
 
 grows : (base s : ℕ) → 1 ≤ base → s ≤ base * s
 grows base s h = grind arith

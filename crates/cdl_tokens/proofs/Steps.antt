@@ -1,6 +1,5 @@
 -- The tokens, one gap or token on.
-use Rattle.std.proofs.Common.{◌≡◌, ℕ, zero, suc, ◌+◌, ◌-◌, ◌<◌, ◌≤◌, Bool, List, [], ◌∷◌, length, drop, take, ap, arith, ◌&&◌, is_none, rules}
-use Rattle.cdl_tokens.proofs.Prelude.{at_drop_more, at_drop_all, drop-drop, Scanned, End, scan, tokens_at, token_at, with_token}
+use Rattle.cdl_tokens.proofs.Prelude.{at_drop_more, at_drop_all, drop-drop, Scanned, End, scan, tokens_at, token_at, with_token, ◌≡◌, ℕ, zero, suc, ◌+◌, ◌-◌, ◌<◌, ◌≤◌, Bool, List, [], ◌∷◌, length, drop, take, ap, arith, ◌&&◌, is_none, rules}
 
 pub drop_some : (n b : ℕ) (bytes : List ℕ) → 0 < n → drop n (b ∷ bytes) ≡ drop (n - 1) bytes
 drop_some n b bytes h = grind arith

@@ -1,6 +1,5 @@
 -- What a string has between its quotes, one escape on.
-use Rattle.std.proofs.Common.{◌≡◌, ℕ, zero, suc, ◌+◌, ◌<◌, Bool, true, false, cond, List, [], ◌∷◌, length, take, drop, min, refl, sym, ap, ◌∙◌, subst, arith, ◌==◌, ◌&&◌, Some, is_some, slice_index, if◌then◌else◌, rules}
-use Rattle.cdl_tokens.proofs.Prelude.{list_all, prefix_len, take_while, character, unescape, unescape_at, is_octal, is_hex, is_ordinary, len_until, number_escape, plain_escape}
+use Rattle.cdl_tokens.proofs.Prelude.{list_all, prefix_len, take_while, character, unescape, unescape_at, is_octal, is_hex, is_ordinary, len_until, number_escape, plain_escape, ◌≡◌, ℕ, zero, suc, ◌+◌, ◌<◌, Bool, true, false, cond, List, [], ◌∷◌, length, take, drop, min, refl, sym, ap, ◌∙◌, subst, arith, ◌==◌, ◌&&◌, Some, is_some, slice_index, if◌then◌else◌, rules}
 use Rattle.cdl_tokens.specs.declared.scan.Character.{Character}
 use Rattle.std.proofs.lemmas.List.Sums.{take_while-cons}
 use Rattle.cdl_tokens.proofs.Steps.{drop_one_more, take_one_more}

@@ -1,10 +1,9 @@
 -- A string, one character on.
-use Rattle.std.proofs.Common.{◌≡◌, ℕ, zero, suc, ◌+◌, ◌-◌, ◌<◌, ◌≤◌, true, false, List, [], ◌∷◌, ◌++◌, length, take, drop, sym, ◌∙◌, ap, refl, arith, ◌==◌, map, Option, Some, is_some, unwrap_or, min, set, append_assoc}
+use Rattle.cdl_tokens.proofs.Prelude.{list_all, prefix_len, prefix_len-le-length, plain_escape, append-nil, at_drop_all, length-take-le, take-append-drop, take-take, take_all, unescape, unescape_at, character, string_value, is_unescaped, ◌≡◌, ℕ, zero, suc, ◌+◌, ◌-◌, ◌<◌, ◌≤◌, true, false, List, [], ◌∷◌, ◌++◌, length, take, drop, sym, ◌∙◌, ap, refl, arith, ◌==◌, map, Option, Some, is_some, unwrap_or, min, set, append_assoc}
 use Rattle.std.proofs.Math.Seq.{take-append-add}
 use Rattle.std.proofs.lemmas.List.{drop_min, length-take, take_more_set}
 use Rattle.std.proofs.lemmas.List.Folds.{prefix_len-append}
-use Rattle.cdl_tokens.proofs.Prelude.{list_all, prefix_len, prefix_len-le-length, plain_escape, append-nil, at_drop_all, length-take-le, take-append-drop, take-take, take_all, unescape, unescape_at, character, string_value, is_unescaped}
-use Rattle.cdl_tokens.specs.code.Unescaping.{with_rest}
+use Rattle.cdl_tokens.specs.code.Unescaping.{then_rest}
 use Rattle.cdl_tokens.specs.declared.scan.Character.{Character}
 use Rattle.cdl_tokens.proofs.Steps.{drop_some}
 
@@ -82,7 +81,7 @@ copied_part old new bs at n run copied room few =
     ∙ take-append-add (take at old) (take n bs) run ∙ ap (λ xs. take at old ++ xs) (take-take run n bs few)
 
 pub run_put : (old new bs : List ℕ) (at n run : ℕ) → take (at + n) new ≡ take at old ++ take n bs → at ≤ length old → run ≡ prefix_len is_unescaped (take n bs) →
-    with_rest new (at + run) (drop run bs) ≡ with_rest old at bs
+    then_rest new (at + run) (drop run bs) ≡ then_rest old at bs
 run_put old new bs at n run copied room is =
     let few : run ≤ n = omega (arith, prefix_len-le-length is_unescaped (take n bs), length-take n bs) in
     let within : run ≤ prefix_len is_unescaped bs = grind (arith, prefix_len-append is_unescaped (take n bs) (drop n bs), take-append-drop n bs) in
@@ -90,7 +89,7 @@ run_put old new bs at n run copied room is =
     ∙ ap (λ xs. take at old ++ xs) (sym (stands_run bs run within))
 
 pub character_put : (old bs : List ℕ) (at : ℕ) (c : Character) → at < length old → 0 < length bs → c ≡ character bs → 0 < c.len →
-    with_rest (set old at (or_zero c.value)) (at + 1) (drop (min c.len (length bs)) bs) ≡ with_rest old at bs
+    then_rest (set old at (or_zero c.value)) (at + 1) (drop (min c.len (length bs)) bs) ≡ then_rest old at bs
 character_put old bs at c room first is some =
     rw (take_more_set old at (or_zero c.value) room, drop_min c.len bs, unescape_first bs c first is some) (append_assoc (take at old) (or_zero c.value ∷ []) (string_value (drop c.len bs)))
 

@@ -1,9 +1,8 @@
 -- Suffixes, each letter in either case.
-use Rattle.std.proofs.Common.{◌≡◌, ℕ, Bool, true, List, [], ◌∷◌, arith, ◌↔◌, map, IsTrue, Some, length, suc, rules}
+use Rattle.cdl_tokens.proofs.Prelude.{type_of_suffix, Version, Int, ◌≡◌, ℕ, Bool, true, List, [], ◌∷◌, arith, ◌↔◌, map, IsTrue, Some, length, suc, rules}
 use Rattle.std.specs.Char.{to_ascii_lowercase}
 use Rattle.std.specs.Str.{bytes_eq}
 use Rattle.std.specs.Cmp.Lexicographic.{bytes_decides}
-use Rattle.cdl_tokens.proofs.Prelude.{type_of_suffix, Version, Int}
 
 same_truth : {P : Type 0} (r w : Bool) → (IsTrue r ↔ P) → (w ≡ true → P) → (P → w ≡ true) → r ≡ w
 same_truth r w h h2 h3 = grind arith

@@ -1,6 +1,5 @@
 -- A `_` by itself.
-use Rattle.std.proofs.Common.{◌≡◌, ℕ, Bool, true, false, List, [], ◌∷◌, refl, arith, slice_index, ap, ◌∙◌, ◌+◌}
-use Rattle.cdl_tokens.proofs.Prelude.{goes_on_word, is_escape, scan, token, Word, word_len, BeginsUnderscore, ends_value}
+use Rattle.cdl_tokens.proofs.Prelude.{goes_on_word, is_escape, scan, token, Word, word_len, BeginsUnderscore, ends_value, ◌≡◌, ℕ, Bool, true, false, List, [], ◌∷◌, refl, arith, slice_index, ap, ◌∙◌, ◌+◌}
 use Rattle.cdl_tokens.proofs.PlainTokens.{ended_low}
 use Rattle.cdl_tokens.proofs.Words.{and_false}
 

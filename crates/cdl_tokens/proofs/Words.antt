@@ -1,6 +1,5 @@
 -- A word and a quoted text, one byte or escape on.
-use Rattle.std.proofs.Common.{◌≡◌, ℕ, ◌+◌, ◌<◌, ◌≤◌, Bool, true, false, List, [], ◌∷◌, length, get_or, drop, sym, ◌∙◌, ap, refl, arith, length-drop, ◌&&◌, ◌||◌, ◌==◌, if◌then◌else◌, nat_lt, ⊎_elim, append_assoc, ◌++◌, rules}
-use Rattle.cdl_tokens.proofs.Prelude.{prefix_len, is_ordinary, false≢true, cases_lt, at_drop_more, at_drop_all, drop-drop, get_or-drop, get_or_past, is_escape, goes_on_word, may_begin_word, word_len, len_until, word_value}
+use Rattle.cdl_tokens.proofs.Prelude.{prefix_len, is_ordinary, false≢true, cases_lt, at_drop_more, at_drop_all, drop-drop, get_or-drop, get_or_past, is_escape, goes_on_word, may_begin_word, word_len, len_until, word_value, ◌≡◌, ℕ, ◌+◌, ◌<◌, ◌≤◌, Bool, true, false, List, [], ◌∷◌, length, get_or, drop, sym, ◌∙◌, ap, refl, arith, length-drop, ◌&&◌, ◌||◌, ◌==◌, if◌then◌else◌, nat_lt, ⊎_elim, append_assoc, ◌++◌, rules}
 use Rattle.cdl_tokens.proofs.Steps.{drop_one_more}
 
 pub and_false : (a : Bool) → (a && false) ≡ false

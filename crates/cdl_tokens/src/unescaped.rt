@@ -2,7 +2,7 @@
 
 ghost use Rattle.std.specs.Prelude.{◌≡◌, ◌+◌, ◌≤◌, ◌<◌, length};
 ghost use Rattle.cdl_tokens.specs.Escapes.{string_value};
-ghost use Rattle.cdl_tokens.specs.code.Unescaping.{with_rest};
+ghost use Rattle.cdl_tokens.specs.code.Unescaping.{then_rest};
 
 use crate::escape::character;
 use crate::search::{LANES, Stops, near_len};
@@ -17,15 +17,17 @@ pub struct Unescaped<'a> {
     pub rest: &'a [u8],
 }
 
-/// Puts at the start of `text` the bytes that the first characters of a string stand for: of one character at least, and of so many that
-/// fewer than 17 bytes of `text` are left, if the string has them. `bytes` are those of the string without its quotes. An escape that
-/// stands for no byte gives a 0 byte. What stands in `text` after the bytes may be anything then.
+/// Puts at the start of `text` the bytes that the first characters of a string stand for: those of all its characters, or of as many, one at
+/// least, as leave fewer than 17 bytes of `text` free. `bytes` are those of the string without its quotes. An escape that stands for no
+/// byte gives a 0 byte. What stands in `text` after the bytes may be anything then. Needs a `text` of at least 17 bytes, and a string that
+/// isn't empty.
 pub fn gather_unescaped<'a>(text: &mut [u8], bytes: &'a [u8]) -> Unescaped<'a>
     requires room { 17 ≤ length text.old }
     requires some { 0 < length bytes.now }
-    ensures value { with_rest text.new result.end result.rest.now ≡ string_value bytes.now }
+    ensures value { then_rest text.new result.end result.rest.now ≡ string_value bytes.now }
     ensures within { result.end ≤ length text.new }
     ensures shorter { length result.rest.now < length bytes.now }
+    ensures full { 0 < length result.rest.now → length text.new < result.end + 17 }
 {
     let mut end = 0;
     let mut rest = bytes;
@@ -42,7 +44,7 @@ pub fn gather_unescaped<'a>(text: &mut [u8], bytes: &'a [u8]) -> Unescaped<'a>
 fn put_character<'a>(text: &mut [u8], at: usize, bytes: &'a [u8]) -> &'a [u8]
     requires room { at + 1 ≤ length text.old }
     requires some { 0 < length bytes.now }
-    ensures value { with_rest text.new (at + 1) result.now ≡ with_rest text.old at bytes.now }
+    ensures value { then_rest text.new (at + 1) result.now ≡ then_rest text.old at bytes.now }
     ensures shorter { length result.now < length bytes.now }
 {
     let found = character(bytes);
@@ -56,7 +58,7 @@ fn put_character<'a>(text: &mut [u8], at: usize, bytes: &'a [u8]) -> &'a [u8]
 #[inline(always)]
 fn put_run<'a>(text: &mut [u8], at: usize, bytes: &'a [u8]) -> Unescaped<'a>
     requires { at + 16 ≤ length text.old }
-    ensures value { with_rest text.new result.end result.rest.now ≡ with_rest text.old at bytes.now }
+    ensures value { then_rest text.new result.end result.rest.now ≡ then_rest text.old at bytes.now }
     ensures on { at ≤ result.end }
     ensures within { result.end ≤ at + 16 }
     ensures short { result.end + length result.rest.now ≡ at + length bytes.now }

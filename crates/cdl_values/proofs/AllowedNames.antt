@@ -1,6 +1,5 @@
 -- Names that the format doesn't allow.
-use Rattle.std.proofs.Common.{◌≡◌, ℕ, Bool, false, List, Result, Err, arith, rules}
-use Rattle.cdl_values.proofs.Prelude.{is_name, CdlKind, BadName, unless, ContinuesRead, FailsRead, GivesRead, ReadError, OutOfMemory, Fault}
+use Rattle.cdl_values.proofs.Prelude.{is_name, CdlKind, BadName, unless, ContinuesRead, FailsRead, GivesRead, ReadError, OutOfMemory, Fault, ◌≡◌, ℕ, Bool, false, List, Result, Err, arith, rules}
 
 -- what asks first whether the format allows the name has that fault
 pub not_allowed : {A : Type 0} (e : ReadError) (name : List ℕ) (read : Bool → Result A CdlKind) → read false ≡ Err BadName → FailsRead e (unless (is_name name) BadName) → FailsRead e (read (is_name name))

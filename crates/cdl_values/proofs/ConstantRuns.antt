@@ -1,12 +1,10 @@
 -- A run of constants, one constant on.
-use Rattle.std.proofs.Common.{◌≡◌, ℕ, List, ◌∷◌, sym, ap, ◌∙◌, rules, arith, Option, None, Some, Err, Result, option_map, subst}
-use Rattle.std.specs.Prelude.{⊤}
-use Rattle.cdl_values.proofs.Prelude.{NcType, Version, Cutter, CdlKind, Lexeme, IsAtComma, Passes, PassesNumber, parts, parts_or_zero, held, Parts, number, Number, value_of, values, words, version_of, add_constant, in_turn, ContinuesRead, ReadError, lexeme_with, past_mark, same_words, FailsRead, lexeme, next_token, text_of}
+use Rattle.cdl_values.proofs.Prelude.{NcType, Version, Cutter, CdlKind, Lexeme, IsAtComma, Passes, PassesNumber, parts, parts_or_zero, held, Parts, number, Number, value_of, values, words, version_of, add_constant, in_turn, ContinuesRead, ReadError, lexeme_with, past_mark, same_words, FailsRead, lexeme, next_token, text_of, ◌≡◌, ℕ, List, ◌∷◌, sym, ap, ◌∙◌, rules, arith, Option, None, Some, Err, Result, option_map, subst, ⊤}
 use Rattle.cdl_values.specs.code.TokenValues.{AddsNumber, MovesOn, TakesConstants, constants_on}
 use Rattle.cdl_tokens.specs.declared.numeral.Numeral.{Numeral}
 use Rattle.cdl_tokens.specs.declared.token.TokenKind.TheVariants as kinds
 use Rattle.cdl_statements.proofs.Dues.{kind_of_mark}
-use Rattle.cdl_statements.specs.code.NumberLists as lists
+use Rattle.cdl_statements.specs.code.ValueLists as lists
 use Rattle.cdl_values.proofs.ConstantBytes.{turn_on}
 
 -- ---- where the cutter is

@@ -1,6 +1,5 @@
 -- A statement has fewer values than the greatest capacity, so that stands for all from there on.
-use Rattle.std.proofs.Common.{◌≡◌, ℕ, zero, suc, ◌+◌, ◌-◌, ◌≤◌, Bool, List, [], ◌∷◌, length, map, drop, refl, sym, ap, ◌∙◌, arith, Option, Result, ◌&&◌, is_none, min, rules}
-use Rattle.cdl_values.proofs.Prelude.{Version, values, words, pieces_left, text_of, first_piece, Lexeme, followed, Value, Cutter, CdlKind, TokenKind, Capacity, AtMost, Unlimited, Dim, room_of, takes_of, values_listed, positions_in, taken_type, Fills, HasCapacity, as_bytes, capacity_for, most, packed, Fill, ValueForm, Numbers, Rows}
+use Rattle.cdl_values.proofs.Prelude.{Version, values, words, pieces_left, text_of, first_piece, Lexeme, followed, Value, Cutter, CdlKind, TokenKind, Capacity, AtMost, Unlimited, Dim, room_of, takes_of, values_listed, positions_in, taken_type, Fills, HasCapacity, as_bytes, capacity_for, most, packed, Fill, ValueForm, Numbers, Rows, ◌≡◌, ℕ, zero, suc, ◌+◌, ◌-◌, ◌≤◌, Bool, List, [], ◌∷◌, length, map, drop, refl, sym, ap, ◌∙◌, arith, Option, Result, ◌&&◌, is_none, min, rules}
 use Rattle.cdl_statements.specs.Pieces.{first_role, pieces_after, step, with_first}
 use Rattle.cdl_tokens.specs.Scan.{scan}
 use Rattle.cdl_tokens.specs.Tokens.{tokens_at, with_token}

@@ -1,6 +1,5 @@
 -- What a statement of the data section means is what its state lists.
-use Rattle.std.proofs.Common.{◌≡◌, ℕ, ℤ, suc, ◌≤◌, sym, arith, Bool, true, false, List, [], ◌∷◌, ◌++◌, length, refl, ap, ◌∙◌, length-append, append_assoc, Option, None, Some, Result, Ok, Err, if◌then◌else◌, slice_get, drop, rules}
-use Rattle.cdl_values.proofs.Prelude.{flat_map, position_from, bytes_eq, length-drop, bytes_of_number, Dim, Version, values, completes, next, word_value, Lexeme, is_mark, Listed, first_bad, shape, CdlKind, Syntax, UnknownVariable, fine_on, State, Value, Draft, ValueForm, Fills, Suits, packed, takes_of, taken_type, values_listed, change_named, change_variable, with_values, act, data_read, bytes_assigned, target_of, target_at, unless_given, packed_for, unless_bad, AllSuit, names_of, HasListed, Means, begins_brace, ReadsStatement, result_array, GivesRead, ReadError, as_bytes, most, Target}
+use Rattle.cdl_values.proofs.Prelude.{flat_map, position_from, bytes_eq, length-drop, bytes_of_number, Dim, Version, values, completes, next, word_value, Lexeme, is_mark, Listed, first_bad, shape, CdlKind, Syntax, UnknownVariable, fine_on, State, Value, Draft, ValueForm, Fills, Suits, packed, takes_of, taken_type, values_listed, change_named, change_variable, with_values, act, data_read, bytes_assigned, target_of, target_at, unless_given, packed_for, unless_bad, AllSuit, names_of, HasListed, Means, begins_brace, ReadsStatement, result_array, GivesRead, ReadError, as_bytes, most, Target, ◌≡◌, ℕ, ℤ, suc, ◌≤◌, sym, arith, Bool, true, false, List, [], ◌∷◌, ◌++◌, length, refl, ap, ◌∙◌, length-append, append_assoc, Option, None, Some, Result, Ok, Err, if◌then◌else◌, slice_get, drop, rules}
 use Rattle.cdl_statements.specs.declared.due.Due.TheVariants as dues
 use Rattle.cdl_statements.specs.declared.section.Section.TheVariants.{Values}
 use Rattle.cdl_statements.proofs.Sections.{data_is}

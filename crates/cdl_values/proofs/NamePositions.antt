@@ -1,6 +1,5 @@
 -- What an index of names finds, and an index of one name more.
-use Rattle.std.proofs.Common.{◌≡◌, ◌<◌, ℕ, suc, ◌+◌, Bool, true, false, cond, List, [], ◌∷◌, ◌++◌, length, get_or, refl, sym, ap, ◌∙◌, subst, ⊎_elim, arith, Vec, Global, Option, None, Some, ◌==◌, is_some, map, not, rules}
-use Rattle.cdl_values.proofs.Prelude.{list_any, position_from, BTreeMap, bytes_eq, cases_Bool, cond-true, cond-false, false≢true, get_or-map, length-map, IsIndex, NameIndex, first_with_hash, hash_of, is_new, later_position, position_of}
+use Rattle.cdl_values.proofs.Prelude.{list_any, position_from, BTreeMap, bytes_eq, cases_Bool, cond-true, cond-false, false≢true, get_or-map, length-map, IsIndex, NameIndex, first_with_hash, hash_of, is_new, later_position, position_of, ◌≡◌, ◌<◌, ℕ, suc, ◌+◌, Bool, true, false, cond, List, [], ◌∷◌, ◌++◌, length, get_or, refl, sym, ap, ◌∙◌, subst, ⊎_elim, arith, Vec, Global, Option, None, Some, ◌==◌, is_some, map, not, rules}
 use Rattle.std.specs.BTreeMap as tree
 use Rattle.std.specs.Map.{lookup, IsKeyTest, AreApart, KeepsOthers}
 use Rattle.std.specs.Cmp.{eq_by_cmp_equiv, unsigned_ties}

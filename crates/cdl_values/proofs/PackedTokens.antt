@@ -1,6 +1,5 @@
 -- The values of a statement, one token on.
-use Rattle.std.proofs.Common.{◌≡◌, ℕ, suc, ◌<◌, false, List, [], ◌∷◌, ◌++◌, refl, ap, append_assoc, rules, append-nil, drop, length, Result, Ok, Err, pos, arith}
-use Rattle.cdl_values.proofs.Prelude.{Char, Version, bytes_of_number, Lexeme, is_mark_kind, values, value_of, Value, CdlKind, Capacity, ValueForm, char_bytes, bytes_of, capacity_after, joined, followed_by, packed, ReadError, OutOfMemory, Fault, FailsRead, drop-append_seam, TokenKind}
+use Rattle.cdl_values.proofs.Prelude.{Char, Version, bytes_of_number, Lexeme, is_mark_kind, values, value_of, Value, CdlKind, Capacity, ValueForm, char_bytes, bytes_of, capacity_after, joined, followed_by, packed, ReadError, OutOfMemory, Fault, FailsRead, drop-append_seam, TokenKind, ◌≡◌, ℕ, suc, ◌<◌, false, List, [], ◌∷◌, ◌++◌, refl, ap, append_assoc, rules, append-nil, drop, length, Result, Ok, Err, pos, arith}
 use Rattle.cdl_tokens.specs.declared.token.TokenKind.TheVariants as kinds
 
 -- what stands before a fault is given up

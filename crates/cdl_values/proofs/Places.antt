@@ -1,10 +1,9 @@
 -- What the variables take of the data section.
-use Rattle.std.proofs.Common.{◌≡◌, ℕ, ◌+◌, ◌*◌, ◌-◌, ◌<◌, false, nat_lt, slice_index, pos, List, [], ◌∷◌, ◌++◌, length, Some, take, get_or, sym, ap, ◌∙◌, subst, arith, ℤ, unsigned_abs}
+use Rattle.cdl_values.proofs.Prelude.{get_or-map, length-map, take-suc, map-append, IsInRange, is_char, dim_len, is_record_var, room_of, takes_of, ValueForm, Fills, Numbers, Joined, Rows, positions_in, Dim, Draft, AreShaped, unlisted_drafts, unlisted_draft, AllSuit, Suits, Target, NcType, Char, ◌≡◌, ℕ, ◌+◌, ◌*◌, ◌-◌, ◌<◌, false, nat_lt, slice_index, pos, List, [], ◌∷◌, ◌++◌, length, Some, take, get_or, sym, ap, ◌∙◌, subst, arith, ℤ, unsigned_abs}
 use Rattle.cdl_statements.specs.State as states
 use Rattle.cdl_statements.proofs.Rows.{slab_rows}
 use Rattle.nc_base.proofs.SoundLaws.{some_count}
 use Rattle.nc_base.specs.Fill.{fill_value}
-use Rattle.cdl_values.proofs.Prelude.{get_or-map, length-map, take-suc, map-append, IsInRange, is_char, dim_len, is_record_var, room_of, takes_of, ValueForm, Fills, Numbers, Joined, Rows, positions_in, Dim, Draft, AreShaped, unlisted_drafts, unlisted_draft, AllSuit, Suits, Target, NcType, Char}
 use Rattle.std.proofs.lemmas.List.Elements.{All-get_or}
 use Rattle.nc_base.specs.Headers.{AreDimids}
 use Rattle.nc_base.specs.declared.header.Var.{Var}

@@ -1,9 +1,11 @@
 -- The names that proofs of this crate cite from elsewhere, passed on from one place.
+pub use Rattle.std.proofs.Common.{Bool, Err, Global, List, None, Ok, Option, Result, Some, Vec, [], ap, append-nil, append_assoc, arith, codes, cond, drop, false, get_or, if◌then◌else◌, is_none, is_some, length, length-append, map, min, nat_le, nat_lt, neg_ℤ, not, option_map, pos, refl, replicate, rules, slice_get, slice_index, subst, subst₂, suc, sym, take, true, unsigned_abs, zero, ℕ, ℤ, ⊎_elim, ◌&&◌, ◌*◌, ◌++◌, ◌+◌, ◌-◌, ◌<◌, ◌==◌, ◌^◌, ◌∙◌, ◌∷◌, ◌≡◌, ◌≤◌}
+pub use Rattle.std.specs.Prelude.{⊤}
 pub use Rattle.cdl_statements.specs.State.{Draft, State, Takes, add_constant, add_value, change_named, filled, has_room, in_turn, room_of, same_type, type_said, unless, values_listed, when, with_values}
 unfoldable pub use Rattle.cdl_statements.specs.State.{act, change_variable, has_number, takes_of}
 pub use Rattle.cdl_statements.proofs.Dues.{fine_on, only_completes}
 pub use Rattle.cdl_statements.proofs.Listing.{past_mark}
-pub use Rattle.cdl_statements.proofs.NumberLists.{at_same_comma, same_after, same_words}
+pub use Rattle.cdl_statements.proofs.ValueLists.{at_same_comma, same_after, same_words}
 pub use Rattle.cdl_statements.proofs.ShapeChecks.{ending, first_word, going, good_end, good_on}
 pub use Rattle.cdl_statements.specs.Lexemes.{Lexeme, is_mark, is_mark_kind, is_word_kind, lexeme}
 pub use Rattle.cdl_statements.specs.Shapes.{Close, Characters, Listed, Number, Underscore, Value, first_bad, token_fault}

@@ -1,6 +1,5 @@
 -- A number as it is held is in a type's range where the number is.
-use Rattle.std.proofs.Common.{◌≡◌, ℕ, ℤ, Bool, false, arith, Option, Some, Ok, nat_le, option_map, List}
-use Rattle.cdl_values.proofs.Prelude.{NcType, parts_or_zero, Parts, signed, number, word, held, Number, has_number, greatest, number_bytes, held_bytes, joined, value_bytes}
+use Rattle.cdl_values.proofs.Prelude.{NcType, parts_or_zero, Parts, signed, number, word, held, Number, has_number, greatest, number_bytes, held_bytes, joined, value_bytes, ◌≡◌, ℕ, ℤ, Bool, false, arith, Option, Some, Ok, nat_le, option_map, List}
 use Rattle.cdl_tokens.specs.declared.numeral.Numeral.{Numeral}
 
 in_range : (ty : NcType) (minus : Bool) (m : ℕ) → has_number ty (signed minus m) ≡ nat_le m (greatest ty minus)

@@ -1,7 +1,6 @@
 -- Targets that suit a state's drafts: the premises of the data section's reader can be met.
-use Rattle.std.proofs.Common.{List, [], ◌∷◌, false, rules, ◌^◌, ◌-◌, codes, None, pos, neg_ℤ}
+use Rattle.cdl_values.proofs.Prelude.{Dim, Int, Char, Draft, takes_of, has_number, AllSuit, AtMost, Target, Fill, Numbers, Joined, Rows, List, [], ◌∷◌, false, rules, ◌^◌, ◌-◌, codes, None, pos, neg_ℤ}
 use Rattle.nc_base.specs.Fill.{fill_value}
-use Rattle.cdl_values.proofs.Prelude.{Dim, Int, Char, Draft, takes_of, has_number, AllSuit, AtMost, Target, Fill, Numbers, Joined, Rows}
 
 dims : List Dim
 dims = record { name = codes "n"; len = 2 } ∷ record { name = codes "k"; len = 3 } ∷ record { name = codes "w"; len = 2 ^ 40 } ∷ []

@@ -1,6 +1,5 @@
 -- The values of a statement one by one: their bytes are the bytes of what the state lists.
-use Rattle.std.proofs.Common.{◌≡◌, ◌<◌, ◌≤◌, ℕ, zero, suc, ◌+◌, ◌-◌, ◌*◌, ℤ, false, List, [], ◌∷◌, ◌++◌, length, map, refl, sym, ap, ◌∙◌, arith, append-nil, length-append, rules, pos, Option, None, Some, Result, Ok, Err, not, replicate}
-use Rattle.cdl_values.proofs.Prelude.{flat_map, flat_map-append, Char, bytes_of_number, Value, Number, Characters, Underscore, CdlKind, Capacity, AtMost, Unlimited, add_value, in_turn, has_room, filled, Fills, taken_type, as_bytes, packed, followed_by, joined, bytes_of, capacity_after, is_full, is_exceeded_by, capacity_minus, char_bytes, Fill, ValueForm, length-map}
+use Rattle.cdl_values.proofs.Prelude.{flat_map, flat_map-append, Char, bytes_of_number, Value, Number, Characters, Underscore, CdlKind, Capacity, AtMost, Unlimited, add_value, in_turn, has_room, filled, Fills, taken_type, as_bytes, packed, followed_by, joined, bytes_of, capacity_after, is_full, is_exceeded_by, capacity_minus, char_bytes, Fill, ValueForm, length-map, ◌≡◌, ◌<◌, ◌≤◌, ℕ, zero, suc, ◌+◌, ◌-◌, ◌*◌, ℤ, false, List, [], ◌∷◌, ◌++◌, length, map, refl, sym, ap, ◌∙◌, arith, append-nil, length-append, rules, pos, Option, None, Some, Result, Ok, Err, not, replicate}
 use Rattle.cdl_statements.specs.State.{Takes}
 use Rattle.cdl_statements.specs.State as states
 use Rattle.cdl_values.specs.declared.form.ValueForm.TheVariants as fillings

@@ -1,9 +1,8 @@
 -- A run of values, one value on.
-use Rattle.std.proofs.Common.{◌≡◌, ℕ, Bool, true, false, List, [], ◌∷◌, ◌++◌, sym, ap, refl, subst, None, Ok, rules}
-use Rattle.cdl_values.proofs.Prelude.{Version, value_of, values, is_done, version_of, words, completes, is_value_of, next, Lexeme, IsAtComma, Passes, PassesNumber, PassesString, PassesUnderscore, Characters, token_fault, lexeme_with, Cutter, Due, Separator, at_same_comma, same_after, same_words, good_on, Capacity, bytes_of, bytes_of_number, held_bytes, is_full, joined, capacity_minus, packed, row_bytes, GoesOn, Place, TakesValues, Fill, ValueForm, Numbers, Rows, past_mark}
+use Rattle.cdl_values.proofs.Prelude.{Version, value_of, values, is_done, version_of, words, completes, is_value_of, next, Lexeme, IsAtComma, Passes, PassesNumber, PassesString, PassesUnderscore, Characters, token_fault, lexeme_with, Cutter, Due, Separator, at_same_comma, same_after, same_words, good_on, Capacity, bytes_of, bytes_of_number, held_bytes, is_full, joined, capacity_minus, packed, row_bytes, GoesOn, Place, TakesValues, Fill, ValueForm, Numbers, Rows, past_mark, ◌≡◌, ℕ, Bool, true, false, List, [], ◌∷◌, ◌++◌, sym, ap, refl, subst, None, Ok, rules}
 use Rattle.cdl_tokens.specs.declared.numeral.Numeral.{Numeral}
 use Rattle.cdl_tokens.specs.declared.token.TokenKind.TheVariants as kinds
-use Rattle.cdl_statements.specs.code.NumberLists as lists
+use Rattle.cdl_statements.specs.code.ValueLists as lists
 use Rattle.cdl_values.proofs.PackedTokens.{token_packed}
 use Rattle.cdl_statements.proofs.PassedValues.{good_number}
 use Rattle.cdl_values.proofs.Ranges.{number_added}

@@ -11,7 +11,7 @@ use crate::capacity::Capacity;
 use crate::number::{number_or_zero, put_numeral};
 use crate::read_error::ReadError;
 use crate::string::put_joined_string;
-use cdl_statements::{CdlKind, Cutter, Lexeme, NumberList};
+use cdl_statements::{CdlKind, Cutter, Lexeme, ValueList};
 use cdl_tokens::{Numeral, TokenKind};
 use nc_base::{ListedArray, NcType, Version};
 use std::alloc::Global;
@@ -100,7 +100,7 @@ fn take_plain_constants<'a>(
     ensures adds { TakesConstants ty start.entry vals.old vals.new result }
     ensures moves { IfOk result (λ rest. MovesOn start.entry rest) }
 {
-    let mut list = NumberList::new(start);
+    let mut list = ValueList::new(start);
     'numbers: while let Some(n) = list.number_and_comma() {
         put_number_constant(vals, ty, n)?;
     }

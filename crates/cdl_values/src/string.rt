@@ -18,7 +18,7 @@ use nc_base::ListedArray;
 use std::alloc::AllocError;
 
 /// How many bytes of a string with escapes are appended at once.
-const AT_ONCE: usize = 256;
+const BYTES_AT_ONCE: usize = 256;
 
 /// Appends to `array` the bytes that a string stands for, so that strings are joined: unlike [`put_row`], it fills up no row. `bytes` is
 /// the string with its quotes, and `capacity` is how many more bytes the variable takes. Errs with `StringTooLong` if the string stands for
@@ -104,7 +104,7 @@ fn put_string(array: &mut ListedArray, raw: &[u8]) -> Result<(), AllocError>
 }
 
 /// Appends to `array` the bytes of a string before the first backslash, or all if there is none, and returns those from it on. Errs only if
-/// an allocation failed; nothing is appended then.
+/// an allocation failed; nothing is appended then, but no clause says so.
 fn put_unescaped<'a>(array: &mut ListedArray, bytes: &'a [u8]) -> Result<&'a [u8], AllocError>
     ensures put { IfOk result (λ r. with_rest array.new r.now ≡ with_rest array.old bytes.now) }
     ensures shorter { IfOk result (λ r. length r.now ≤ length bytes.now) }
@@ -115,19 +115,19 @@ fn put_unescaped<'a>(array: &mut ListedArray, bytes: &'a [u8]) -> Result<&'a [u8
 }
 
 /// Appends to `array` the bytes that the first characters of a string stand for, all in one piece, and returns the string's bytes after
-/// these characters. Errs only if an allocation failed; nothing is appended then.
+/// these characters. Needs a string that isn't empty. Errs only if an allocation failed; nothing is appended then, but no clause says so.
 fn put_gathered<'a>(array: &mut ListedArray, bytes: &'a [u8]) -> Result<&'a [u8], AllocError>
     requires { 0 < length bytes.now }
     ensures put { IfOk result (λ r. with_rest array.new r.now ≡ with_rest array.old bytes.now) }
     ensures shorter { IfOk result (λ r. length r.now < length bytes.now) }
 {
-    let mut text = [0; AT_ONCE];
+    let mut text = [0; BYTES_AT_ONCE];
     let gathered = gather_unescaped(&mut text, bytes);
     put_bytes(array, &text[..gathered.end])?;
     Ok(gathered.rest)
 }
 
-/// Appends to `array` these characters. Errs only if an allocation failed; nothing is appended then.
+/// Appends to `array` these characters. Errs only if an allocation failed; nothing is appended then, but no clause says so.
 #[inline(always)]
 fn put_bytes(array: &mut ListedArray, characters: &[u8]) -> Result<(), AllocError>
     ensures { OnOk result (array.new ≡ array.old ++ char_bytes characters.now) }

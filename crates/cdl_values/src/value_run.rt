@@ -4,8 +4,8 @@ ghost use Rattle.std.specs.Prelude.{◌≡◌, IfOk, false, true};
 ghost use Rattle.cdl_statements.specs.code.Cutters.{is_done};
 ghost use Rattle.cdl_statements.specs.code.ListedTokens.{EndsAtScanner, IsAtComma};
 ghost use Rattle.cdl_values.specs.code.PackedValues.{capacity_minus};
-ghost use Rattle.cdl_statements.specs.code.NumberLists.{reached};
-ghost use Rattle.cdl_values.specs.code.ValueRuns.{GoesTo, IfTaken, TakesOne, TakesPlain, TakesTo, place};
+ghost use Rattle.cdl_statements.specs.code.ValueLists.{reached};
+ghost use Rattle.cdl_values.specs.code.ValueRuns.{GoesTo, IfTaken, TakesOne, TakesPlain, TakesRows, TakesTo, place};
 
 use crate::capacity::Capacity;
 use crate::fill::Fill;
@@ -14,7 +14,7 @@ use crate::number::{pack_number, put_numeral_inline};
 use crate::read_error::ReadError;
 use crate::string::put_plain_row;
 use crate::value::{QuickPassFault, put_checked_value};
-use cdl_statements::{Cutter, Due, NumberList};
+use cdl_statements::{Cutter, Due, ValueList};
 use nc_base::{ListedArray, NcType};
 
 /// The values of a statement that are still to be read, and how many more values the variable takes.
@@ -113,7 +113,8 @@ fn take_numbers<'a>(
 ) -> Result<UnreadValues<'a>, QuickPassFault>
     requires at { IsAtComma start.cutter }
     requires ends { EndsAtScanner start.cutter }
-    ensures { TakesTo takes_fill (ValueForm.Numbers fill) (place start.entry array.old) array.new result }
+    ensures { TakesTo takes_fill (ValueForm.Numbers fill) (place start.entry array.old)
+        array.new result }
 {
     // A loop for each type, so that the loop itself doesn't ask for it.
     match fill.ty {
@@ -142,10 +143,11 @@ fn take_numbers_of_type<'a>(
     requires at { IsAtComma start.cutter }
     requires ends { EndsAtScanner start.cutter }
     requires ty { ty ≡ fill.ty }
-    ensures { TakesTo takes_fill (ValueForm.Numbers fill) (place start.entry array.old) array.new result }
+    ensures { TakesTo takes_fill (ValueForm.Numbers fill) (place start.entry array.old)
+        array.new result }
 {
     let room = start.capacity.limit();
-    let mut list = NumberList::new(start.cutter);
+    let mut list = ValueList::new(start.cutter);
     let mut left = room;
     'numbers: while left > 0 {
         if !put_next_number(array, &mut list, fill, ty, takes_fill)? {
@@ -163,7 +165,7 @@ fn take_numbers_of_type<'a>(
 #[inline(always)]
 fn put_next_number(
     array: &mut ListedArray,
-    list: &mut NumberList<'_>,
+    list: &mut ValueList<'_>,
     fill: Fill,
     ty: NcType,
     takes_fill: bool,
@@ -200,19 +202,36 @@ fn take_rows<'a>(
     requires ends { EndsAtScanner start.cutter }
     ensures { TakesPlain (ValueForm.Rows len fill) (place start.entry array.old) array.new result }
 {
-    let room = start.capacity.limit();
-    let mut list = NumberList::new(start.cutter);
+    let mut list = ValueList::new(start.cutter);
+    let count = put_rows(array, &mut list, start.capacity.limit(), len, fill)?;
+    Ok(after_values(list.cutter(), count, start.capacity))
+}
+
+/// Appends to `array` the plain strings that come next in `list`, at most `room` of them, each as a row of `len` bytes filled up with
+/// `fill`, and returns how many there were. Stops before the first value that isn't a plain string with a comma after it. Needs a list that
+/// began at a comma inside of a statement. Errs with `StringTooLong` if a string has more than `len` bytes, and with `OutOfMemory` if an
+/// allocation failed; the rows before stay appended.
+// A call, so that the loop keeps nothing of its caller's in registers.
+#[inline(never)]
+fn put_rows(
+    array: &mut ListedArray,
+    list: &mut ValueList<'_>,
+    room: u64,
+    len: u64,
+    fill: u8,
+) -> Result<u64, ReadError>
+    requires { IsAtComma (reached list.old) }
+    ensures { IfOk result (TakesRows room len fill list.old list.new array.old array.new) }
+{
     let mut count = 0;
     'rows: while count < room {
-        match list.string_and_comma() {
-            Some(characters) => {
-                put_plain_row(array, len, fill, characters)?;
-                count += 1;
-            }
-            None => return Ok(after_values(list.cutter(), count, start.capacity)),
-        }
+        let Some(characters) = list.string_and_comma() else {
+            break;
+        };
+        put_plain_row(array, len, fill, characters)?;
+        count += 1;
     }
-    Ok(after_values(list.cutter(), count, start.capacity))
+    Ok(count)
 }
 
 /// Returns what is unread from `cutter` on, after `count` values that each take 1 of `capacity`.

@@ -1,6 +1,5 @@
 -- What the whole command line reads.
-use Rattle.std.proofs.Common.{ℕ, true, List, [], Result, ◌≡◌, ◌∙◌, refl, ap, ◌⊎◌, IsErrAnd}
-use Rattle.nccheck.proofs.Prelude.{Row, fault_of, is_simple, is_simple_and_free, matches_of, AnswersBy, asked_by, asked_in, nccheck, asked_for, CheckOptions}
+use Rattle.nccheck.proofs.Prelude.{Row, fault_of, is_simple, is_simple_and_free, matches_of, AnswersBy, asked_by, asked_in, nccheck, asked_for, CheckOptions, ℕ, true, List, [], Result, ◌≡◌, ◌∙◌, refl, ap, ◌⊎◌, IsErrAnd}
 use Rattle.clap.specs.Kinds.{IsAmong}
 use Rattle.clap.specs.declared.error.kind.ErrorKind.{ErrorKind}
 use Rattle.clap.proofs.OnLiterals.{clap_on_literals}

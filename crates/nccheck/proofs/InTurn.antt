@@ -1,7 +1,5 @@
 -- A run over one item after another.
-use Rattle.std.proofs.Common.{◌≡◌, inl, inr, true, false, Bool, List, [], ◌∷◌, ◌++◌, refl, ap}
-use Rattle.nccheck.proofs.Prelude.{Bytes, Asked, Item, ChecksItem, Either, ends_run, has_ended, IsTold, Openings, RunsOver, State, Answer, Counts, IsCount, Tally}
-use Rattle.std.proofs.Common.{Option, Some, None, Result, Ok, Err, arith}
+use Rattle.nccheck.proofs.Prelude.{Bytes, Asked, Item, ChecksItem, Either, ends_run, has_ended, IsTold, Openings, RunsOver, State, Answer, Counts, IsCount, Tally, ◌≡◌, inl, inr, true, false, Bool, List, [], ◌∷◌, ◌++◌, refl, ap, Option, Some, None, Result, Ok, Err, arith}
 use Rattle.std.proofs.lemmas.List.Folds.{list_any-append}
 use Rattle.std.proofs.lemmas.List.Sums.{fold-append}
 use Rattle.devices.specs.Sinks.{SinkView}

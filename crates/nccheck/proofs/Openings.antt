@@ -1,6 +1,5 @@
 -- Whose failure it was, where one path was opened.
-use Rattle.std.proofs.Common.{◌≡◌, Result, arith}
-use Rattle.nccheck.proofs.Prelude.{HasFailed, HasBack, OpensOnce, FileFault, OpensFile, ReadFailsOnly}
+use Rattle.nccheck.proofs.Prelude.{HasFailed, HasBack, OpensOnce, FileFault, OpensFile, ReadFailsOnly, ◌≡◌, Result, arith}
 use Rattle.devices.specs.Openers.{OpenerView}
 use Rattle.devices.specs.Sources.{SourceView}
 use Rattle.devices.proofs.Openings.{one_failure, no_failure}

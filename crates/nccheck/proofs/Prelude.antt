@@ -1,4 +1,5 @@
 -- The names that several files of proofs cite from elsewhere, passed on from one place.
+pub use Rattle.std.proofs.Common.{Bool, Err, IfSome, IsErrAnd, List, None, Ok, Option, Result, Some, [], ap, append-nil, append_assoc, ap₂, arith, codes, drop, false, get_or, inl, inr, length, lit<, map, nat_le, not, refl, rules, subst, sym, take, take-append-drop, true, unwrap_or, ℕ, ◌&&◌, ◌*◌, ◌++◌, ◌+◌, ◌<◌, ◌^◌, ◌∙◌, ◌∷◌, ◌≡◌, ◌≤◌, ◌⊎◌}
 pub use Rattle.clap.specs.Words.{App, HasKind, Row, app_of, fault_of, found_of, is_simple, is_simple_and_free, kind_of, matches_of, new_app, rows_of, rule_of, with_rule}
 pub use Rattle.cli_base.specs.Arguments.{flag, option, quiet, texts_of}
 pub use Rattle.cli_base.specs.code.Answers.{AnswersBy}

@@ -1,7 +1,6 @@
 -- Whose failure it was that a text could not be read.
-use Rattle.std.proofs.Common.{◌≡◌, ℕ, subst, ◌∙◌, Result, Err}
+use Rattle.ncgen.proofs.Prelude.{HasFailed, ReaderView, ReadsText, ◌≡◌, ℕ, subst, ◌∙◌, Result, Err}
 use Rattle.devices.proofs.Openings.{one_failure, no_failure}
-use Rattle.ncgen.proofs.Prelude.{HasFailed, ReaderView, ReadsText}
 use Rattle.devices.specs.code.PathOpens.{HasBack, OpensOnce}
 use Rattle.devices.specs.Failures.{one_more}
 use Rattle.devices.specs.Openers.{OpenerView}

@@ -1,7 +1,6 @@
 -- What an output holds that could not be written.
-use Rattle.std.proofs.Common.{ℕ, ◌≡◌, Bool, true, List, [], ◌++◌, Option, Some, None, Result, Ok, Err, inl, inr, refl, ap, subst, ◌∙◌, ◌+◌, ◌-◌, ◌^◌, min, is_some, option_map}
+use Rattle.ncgen.proofs.Prelude.{HasFailed, SinkView, FailedPartway, IsCut, IsPrefix, IsPrefixIf, StoppedShort, append, is_transparent, ℕ, ◌≡◌, Bool, true, List, [], ◌++◌, Option, Some, None, Result, Ok, Err, inl, inr, refl, ap, subst, ◌∙◌, ◌+◌, ◌-◌, ◌^◌, min, is_some, option_map}
 use Rattle.std.proofs.lemmas.Bool.{OnTrue_at, OnTrue_from}
-use Rattle.ncgen.proofs.Prelude.{HasFailed, SinkView, FailedPartway, IsCut, IsPrefix, IsPrefixIf, StoppedShort, append, is_transparent}
 use Rattle.devices.specs.Creators.{CreatorView, give}
 use Rattle.devices.specs.code.Creations.{Closed, CreatedAt}
 use Rattle.ncgen.specs.Outputs.{IsCutShortAt, created_at}

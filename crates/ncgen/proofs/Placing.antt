@@ -1,8 +1,7 @@
 -- The begins of a header change nothing of its values.
-use Rattle.std.proofs.Common.{◌≡◌, ◌∙◌, ℕ, List, [], ◌∷◌, ◌++◌, Bool, map, refl, sym, ap, ap₂, zip}
+use Rattle.ncgen.proofs.Prelude.{Header, block, data_of, fill_bytes, is_sole_narrow, known_records, padded_slab, record_part, vars_with_begins, with_begins, bare_var, AreListed, whole_arrays, listed_data, flat_map-same, ◌≡◌, ◌∙◌, ℕ, List, [], ◌∷◌, ◌++◌, Bool, map, refl, sym, ap, ap₂, zip}
 use Rattle.std.specs.List.{flat_map, range_with_len}
 use Rattle.nc_base.specs.declared.{header.Dim.Dim, header.Var.Var}
-use Rattle.ncgen.proofs.Prelude.{Header, block, data_of, fill_bytes, is_sole_narrow, known_records, padded_slab, record_part, vars_with_begins, with_begins, bare_var, AreListed, whole_arrays, listed_data, flat_map-same}
 use Rattle.nc_base.specs.Fill.{fill_value}
 use Rattle.nc_base.specs.Sizes.{record_vars}
 use Rattle.nc_base.proofs.FileHolds.{bare-after, records-bare}

@@ -1,4 +1,5 @@
 -- The names that proofs of this crate cite from elsewhere, passed on from one place.
+pub use Rattle.std.proofs.Common.{Bool, Err, List, None, Ok, Option, Result, Some, [], ap, append_assoc, ap₂, arith, codes, false, if◌then◌else◌, inl, inr, is_some, length, map, min, option_map, refl, rules, subst, sym, true, zip, ℕ, ◌++◌, ◌+◌, ◌-◌, ◌<◌, ◌^◌, ◌∙◌, ◌∷◌, ◌≡◌, ◌≤◌}
 pub use Rattle.cdl_statements.specs.Meaning.{meaning}
 pub use Rattle.cdl_statements.proofs.Meanings.{IsWhole, meanings_are_whole}
 pub use Rattle.cdl_statements.specs.Bounds.{out_of_memory}

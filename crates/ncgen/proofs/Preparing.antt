@@ -1,6 +1,5 @@
 -- A text's file stands ready to be written.
-use Rattle.std.proofs.Common.{◌≡◌, inl, inr, ◌∙◌, ℕ, List, [], ◌++◌, length, Bool, true, false, if◌then◌else◌, Ok, Err, refl, sym, ap, arith}
-use Rattle.ncgen.proofs.Prelude.{Header, Version, file_of, fits, header_spelling, known_records, with_begins, IsSound, IsWhole, SinkView, record_slabs, IsSound-with_begins, begins-below, CdlFault, meaning, meanings_are_whole, Generates, Refuses, file_or_fault, generated, IsReady, Prepares, file_of_prepared, GenFault, Cdl, OffsetTooLarge, WriteFailed}
+use Rattle.ncgen.proofs.Prelude.{Header, Version, file_of, fits, header_spelling, known_records, with_begins, IsSound, IsWhole, SinkView, record_slabs, IsSound-with_begins, begins-below, CdlFault, meaning, meanings_are_whole, Generates, Refuses, file_or_fault, generated, IsReady, Prepares, file_of_prepared, GenFault, Cdl, OffsetTooLarge, WriteFailed, ◌≡◌, inl, inr, ◌∙◌, ℕ, List, [], ◌++◌, length, Bool, true, false, if◌then◌else◌, Ok, Err, refl, sym, ap, arith}
 use Rattle.nc_file.specs.code.Begins.{offset_too_large}
 use Rattle.nc_walk.specs.declared.write.record_slab.RecordSlab.{RecordSlab}
 use Rattle.nc_file.specs.declared.write.begins.OffsetTooLarge.{OffsetTooLarge as NoRoom}

@@ -1,8 +1,7 @@
 -- Reading a text part by part.
-use Rattle.std.proofs.Common.{ℕ, ◌≡◌, ◌+◌, ◌<◌, ◌≤◌, List, [], ◌++◌, length, Option, append_assoc, arith}
+use Rattle.ncgen.proofs.Prelude.{ReaderView, HasGrown, ℕ, ◌≡◌, ◌+◌, ◌<◌, ◌≤◌, List, [], ◌++◌, length, Option, append_assoc, arith}
 use Rattle.std.specs.Io.KnownBytes.{Consumes}
 use Rattle.std.proofs.lemmas.List.{length-append}
-use Rattle.ncgen.proofs.Prelude.{ReaderView, HasGrown}
 
 -- this is what was handed over so far, by as many reads at most
 pub record HasRead (max : ℕ) (start now : ReaderView) (text : List ℕ) : Type 0 where

@@ -3,5 +3,5 @@ use Rattle.std.specs.Prelude.{ℕ, List, ◌++◌, take}
 use Rattle.cdl_tokens.specs.Escapes.{string_value}
 
 -- the first bytes of the buffer, and those that the rest of the string stands for
-abbrev pub with_rest : List ℕ → ℕ → List ℕ → List ℕ
-with_rest buffer end rest = take end buffer ++ string_value rest
+abbrev pub then_rest : List ℕ → ℕ → List ℕ → List ℕ
+then_rest buffer end rest = take end buffer ++ string_value rest

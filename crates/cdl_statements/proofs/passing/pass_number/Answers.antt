@@ -1,4 +1,4 @@
-use Rattle.cdl_statements.proofs.Prelude.{Bool, sym, subst, reached, PassesValues, NumberList, PassesUnderscore}
+use Rattle.cdl_statements.proofs.Prelude.{Bool, sym, subst, reached, PassesValues, ValueList, PassesUnderscore}
 use Rattle.cdl_statements.proofs.PassedValues.{number_on, underscore_on}
 use Rattle.cdl_statements.proofs.passing.pass_number.Goals as goal
 
@@ -9,5 +9,5 @@ pub returns-then-takes_fill-clause-passes : goal.returns-then-takes_fill-clause-
 returns-then-takes_fill-clause-passes c = λ taken.
     let start = reached c.args.list.now in
     let rest = reached c.underscore_and_comma.new.self in
-    let passes = subst (λ (l : NumberList). PassesUnderscore (reached l) rest) (c.number_and_comma.ensures.stays c.in-None.is) (c.underscore_and_comma.ensures.passes taken) in
+    let passes = subst (λ (l : ValueList). PassesUnderscore (reached l) rest) (c.number_and_comma.ensures.stays c.in-None.is) (c.underscore_and_comma.ensures.passes taken) in
     subst (λ (takes : Bool). PassesValues takes start rest) (sym c.if-takes_fill.true) (underscore_on start rest c.requires passes)

@@ -1,4 +1,4 @@
-use Rattle.cdl_statements.proofs.Prelude.{subst, SamePlace, reached, NumberList}
+use Rattle.cdl_statements.proofs.Prelude.{subst, SamePlace, reached, ValueList}
 use Rattle.cdl_statements.proofs.PassedValues.{ended_at, stays}
 use Rattle.cdl_statements.proofs.passing.pass_numbers.Goals as goal
 
@@ -10,5 +10,5 @@ numbers-init c =
 pub returns : goal.returns
 returns c =
     let a = c.args in
-    let same = subst (λ (l : NumberList). SamePlace c.cutter.result (reached l)) (c.pass_number.ensures.stays c.numbers-test.false) c.cutter.ensures in
+    let same = subst (λ (l : ValueList). SamePlace c.cutter.result (reached l)) (c.pass_number.ensures.stays c.numbers-test.false) c.cutter.ensures in
     ended_at a.takes_fill a.start (reached c.numbers.list) c.cutter.result same c.numbers.invariant.so

@@ -1,5 +1,4 @@
-use Rattle.std.proofs.Common.{ℕ, List, sym, ap, ◌∙◌, ◌==◌, slice_index}
-use Rattle.cdl_tokens.proofs.Prelude.{ends_value}
+use Rattle.cdl_tokens.proofs.Prelude.{ends_value, ℕ, List, sym, ap, ◌∙◌, ◌==◌, slice_index}
 use Rattle.cdl_tokens.proofs.PlainNumbers.{without_suffix}
 use Rattle.cdl_tokens.proofs.plain_number.unsigned_plain_number.Goals as goal
 

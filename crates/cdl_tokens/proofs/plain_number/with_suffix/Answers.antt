@@ -1,5 +1,4 @@
-use Rattle.std.proofs.Common.{ℕ, List, sym, ap, ◌∙◌, ◌==◌, slice_index, subst}
-use Rattle.cdl_tokens.proofs.Prelude.{ends_value, IsLetterOf}
+use Rattle.cdl_tokens.proofs.Prelude.{ends_value, IsLetterOf, ℕ, List, sym, ap, ◌∙◌, ◌==◌, slice_index, subst}
 use Rattle.cdl_tokens.proofs.PlainNumbers.{with_letter}
 use Rattle.cdl_tokens.proofs.plain_number.with_suffix.Goals as goal
 

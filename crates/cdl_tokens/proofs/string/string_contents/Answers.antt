@@ -1,5 +1,4 @@
-use Rattle.std.proofs.Common.{◌≡◌, ◌+◌, ◌&&◌, Bool, take, sym, ap, ◌∙◌, arith, refl, ◌==◌, false, true, is_some}
-use Rattle.cdl_tokens.proofs.Prelude.{ne_eqb, len_until}
+use Rattle.cdl_tokens.proofs.Prelude.{ne_eqb, len_until, ◌≡◌, ◌+◌, ◌&&◌, Bool, take, sym, ap, ◌∙◌, arith, refl, ◌==◌, false, true, is_some}
 use Rattle.cdl_tokens.proofs.StringContents.{are_good, contents, ends, none_good, past_escape, past_run}
 use Rattle.cdl_tokens.proofs.Words.{and_yes}
 use Rattle.cdl_tokens.specs.declared.scan.Character.{Character}

@@ -1,5 +1,4 @@
-use Rattle.std.proofs.Common.{length, ◌≡◌, ◌+◌, ◌&&◌}
-use Rattle.cdl_tokens.proofs.Prelude.{len_until}
+use Rattle.cdl_tokens.proofs.Prelude.{len_until, length, ◌≡◌, ◌+◌, ◌&&◌}
 use Rattle.cdl_tokens.proofs.StringContents.{are_good, contents}
 use Rattle.cdl_tokens.proofs.string.string_contents.Given as goal
 

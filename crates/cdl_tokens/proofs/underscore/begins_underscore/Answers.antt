@@ -1,5 +1,4 @@
-use Rattle.std.proofs.Common.{sym, ap, ◌∙◌}
-use Rattle.cdl_tokens.proofs.Prelude.{ends_value}
+use Rattle.cdl_tokens.proofs.Prelude.{ends_value, sym, ap, ◌∙◌}
 use Rattle.cdl_tokens.proofs.Underscores.{begins_underscore}
 use Rattle.cdl_tokens.proofs.underscore.begins_underscore.Goals as goal
 

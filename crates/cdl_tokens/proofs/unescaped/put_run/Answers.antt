@@ -1,6 +1,5 @@
-use Rattle.std.proofs.Common.{◌+◌, arith, take}
+use Rattle.cdl_tokens.proofs.Prelude.{length-take-le, ◌+◌, arith, take}
 use Rattle.std.proofs.lemmas.Simd.{take_more_put_chunk}
-use Rattle.cdl_tokens.proofs.Prelude.{length-take-le}
 use Rattle.cdl_tokens.proofs.Strings.{run_put}
 use Rattle.cdl_tokens.proofs.unescaped.put_run.Goals as goal
 

@@ -1,5 +1,4 @@
-use Rattle.std.proofs.Common.{rules, arith, ◌≡◌, ◌<◌, true, slice_index}
-use Rattle.cdl_values.proofs.Prelude.{Char, same_type}
+use Rattle.cdl_values.proofs.Prelude.{Char, same_type, rules, arith, ◌≡◌, ◌<◌, true, slice_index}
 use Rattle.cdl_values.proofs.ConstantBytes.{characters_left}
 use Rattle.cdl_values.proofs.constant.put_characters.Goals as goal
 

@@ -1,5 +1,4 @@
-use Rattle.std.proofs.Common.{ap, sym, subst, List}
-use Rattle.cdl_values.proofs.Prelude.{value_of, values, is_mark_kind, Value, lexeme_of, add_constant, in_turn, ContinuesRead, past_mark}
+use Rattle.cdl_values.proofs.Prelude.{value_of, values, is_mark_kind, Value, lexeme_of, add_constant, in_turn, ContinuesRead, past_mark, ap, sym, subst, List}
 use Rattle.cdl_values.proofs.ConstantBytes.{turn_on}
 use Rattle.cdl_values.proofs.PackedTokens.{over_value, no_mark}
 use Rattle.cdl_values.proofs.constant.put_token.Goals as goal

@@ -1,5 +1,4 @@
-use Rattle.std.proofs.Common.{rules, ◌≡◌, ℕ, List, [], Result, Err, ap, sym, ◌∙◌, subst}
-use Rattle.cdl_values.proofs.Prelude.{CdlKind, FailsRead, GivesRead, ReadError, Version, going, values, next_token, text_of, words, lexeme, lexeme_of, ending, add_constant, in_turn}
+use Rattle.cdl_values.proofs.Prelude.{CdlKind, FailsRead, GivesRead, ReadError, Version, going, values, next_token, text_of, words, lexeme, lexeme_of, ending, add_constant, in_turn, rules, ◌≡◌, ℕ, List, [], Result, Err, ap, sym, ◌∙◌, subst}
 use Rattle.cdl_values.proofs.ConstantBytes.{none_left}
 use Rattle.cdl_values.specs.code.TokenValues.{constants_on, constants_read}
 use Rattle.nc_base.specs.declared.listed_array.ListedArray.{ListedArray}

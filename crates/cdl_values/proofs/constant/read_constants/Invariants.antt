@@ -1,5 +1,4 @@
-use Rattle.std.proofs.Common.{◌≡◌, ◌-◌, [], length, false}
-use Rattle.cdl_values.proofs.Prelude.{values, words, is_done, offset_of, text_of, version_of, add_constant, in_turn}
+use Rattle.cdl_values.proofs.Prelude.{values, words, is_done, offset_of, text_of, version_of, add_constant, in_turn, ◌≡◌, ◌-◌, [], length, false}
 use Rattle.cdl_values.proofs.constant.read_constants.Given as goal
 
 abbrev pub invariant-tokens : goal.invariant-tokens

@@ -1,5 +1,4 @@
-use Rattle.std.proofs.Common.{rules, ◌≡◌, ◌∷◌, ℕ, List, Result, sym, ap, Err, subst}
-use Rattle.cdl_values.proofs.Prelude.{CdlKind, FailsRead, Version, add_constant, in_turn, lexeme_of, values, version_of, words}
+use Rattle.cdl_values.proofs.Prelude.{CdlKind, FailsRead, Version, add_constant, in_turn, lexeme_of, values, version_of, words, rules, ◌≡◌, ◌∷◌, ℕ, List, Result, sym, ap, Err, subst}
 use Rattle.cdl_values.proofs.ConstantRuns.{is_wrong, then_takes, token_turn, words_past}
 use Rattle.cdl_values.proofs.constant.take_constants.Goals as goal
 

@@ -1,7 +1,6 @@
-use Rattle.std.proofs.Common.{rules, ◌≡◌, ℕ, List, Result, sym, ◌∙◌, Err, Ok, subst}
-use Rattle.cdl_values.proofs.Prelude.{CdlKind, FailsRead, at_same_comma, version_of}
-use Rattle.cdl_statements.specs.code.NumberLists as lists
-use Rattle.cdl_statements.specs.declared.{number_list.NumberList.NumberList}
+use Rattle.cdl_values.proofs.Prelude.{CdlKind, FailsRead, at_same_comma, version_of, rules, ◌≡◌, ℕ, List, Result, sym, ◌∙◌, Err, Ok, subst}
+use Rattle.cdl_statements.specs.code.ValueLists as lists
+use Rattle.cdl_statements.specs.declared.{value_list.ValueList.ValueList}
 use Rattle.cdl_values.proofs.ConstantRuns.{is_wrong, left_at, moved, moved_past, moved_to, number_turn}
 use Rattle.cdl_values.proofs.constant.take_plain_constants.Goals as goal
 
@@ -42,5 +41,5 @@ pub returns-clause-adds : goal.returns-clause-adds
 returns-clause-adds c =
     let a = c.args in
     let v = version_of a.start in
-    let same = subst (λ (l : NumberList). lists.SamePlace c.cutter.result (lists.reached l)) (c.number_and_comma.ensures.stays c.in_default.is) c.cutter.ensures in
+    let same = subst (λ (l : ValueList). lists.SamePlace c.cutter.result (lists.reached l)) (c.number_and_comma.ensures.stays c.in_default.is) c.cutter.ensures in
     sym (left_at a.ty v c.numbers.vals c.cutter.result (lists.reached c.numbers.list) same ∙ c.numbers.invariant.adds)

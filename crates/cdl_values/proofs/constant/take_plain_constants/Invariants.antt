@@ -1,6 +1,5 @@
-use Rattle.std.proofs.Common.{◌≡◌, ◌-◌, length}
-use Rattle.cdl_values.proofs.Prelude.{IsAtComma, offset_of, text_of, version_of}
-use Rattle.cdl_statements.specs.code.NumberLists as lists
+use Rattle.cdl_values.proofs.Prelude.{IsAtComma, offset_of, text_of, version_of, ◌≡◌, ◌-◌, length}
+use Rattle.cdl_statements.specs.code.ValueLists as lists
 use Rattle.cdl_values.specs.code.TokenValues.{MovesOn, constants_on}
 use Rattle.cdl_values.proofs.constant.take_plain_constants.Given as goal
 

@@ -1,5 +1,4 @@
-use Rattle.std.proofs.Common.{ap, sym, ◌∙◌}
-use Rattle.cdl_values.proofs.Prelude.{value_of, lexeme_of, Numeral, type_said}
+use Rattle.cdl_values.proofs.Prelude.{value_of, lexeme_of, Numeral, type_said, ap, sym, ◌∙◌}
 use Rattle.cdl_values.proofs.ConstantBytes.{no_number}
 use Rattle.cdl_values.proofs.constant.type_said.Goals as goal
 

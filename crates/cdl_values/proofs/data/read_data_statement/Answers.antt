@@ -1,5 +1,4 @@
-use Rattle.std.proofs.Common.{arith, ◌≤◌, length, subst, List, ℕ}
-use Rattle.cdl_values.proofs.Prelude.{version_of, words, GivesRead, most, data_read, StatementValues}
+use Rattle.cdl_values.proofs.Prelude.{version_of, words, GivesRead, most, data_read, StatementValues, arith, ◌≤◌, length, subst, List, ℕ}
 use Rattle.cdl_values.proofs.Counts.{words_len}
 use Rattle.cdl_values.proofs.Joins.{reads_statement}
 use Rattle.cdl_values.proofs.data.read_data_statement.Goals as goal

@@ -1,5 +1,4 @@
-use Rattle.std.proofs.Common.{rules, ◌≡◌, sym, ap, ◌∙◌, true}
-use Rattle.cdl_values.proofs.Prelude.{word_value, Lexeme, lexeme, completes, DataName, next_token, text_of, version_of, words, lexeme_of, values, first_bad, going, target_of, packed}
+use Rattle.cdl_values.proofs.Prelude.{word_value, Lexeme, lexeme, completes, DataName, next_token, text_of, version_of, words, lexeme_of, values, first_bad, going, target_of, packed, rules, ◌≡◌, sym, ap, ◌∙◌, true}
 use Rattle.cdl_statements.specs.declared.due.Due.TheVariants as dues
 use Rattle.cdl_values.proofs.DataReads.{read_on, filled_ok, quick_good}
 use Rattle.cdl_values.proofs.data.read_quickly.Goals as goal

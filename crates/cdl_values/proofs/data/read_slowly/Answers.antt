@@ -1,5 +1,4 @@
-use Rattle.std.proofs.Common.{rules, ◌≡◌, sym, ap, ◌∙◌, true, false, subst, Result, List, ℕ}
-use Rattle.cdl_values.proofs.Prelude.{values, word_value, Lexeme, lexeme, completes, DataName, next_token, text_of, version_of, words, CdlKind, FailsRead, packed, data_read, packed_for, target_of, StatementValues}
+use Rattle.cdl_values.proofs.Prelude.{values, word_value, Lexeme, lexeme, completes, DataName, next_token, text_of, version_of, words, CdlKind, FailsRead, packed, data_read, packed_for, target_of, StatementValues, rules, ◌≡◌, sym, ap, ◌∙◌, true, false, subst, Result, List, ℕ}
 use Rattle.cdl_values.proofs.AllowedNames.{refused}
 use Rattle.cdl_values.proofs.DataReads.{bad_read, no_fault, unshaped_read, read_on, name_goes, name_on, equals_goes, filled_ok, filled_err}
 use Rattle.cdl_values.proofs.data.read_slowly.Goals as goal

@@ -1,5 +1,4 @@
-use Rattle.std.proofs.Common.{rules, refl, if◌then◌else◌, Err}
-use Rattle.cdl_values.proofs.Prelude.{word_value, BadName, target_at, target_of, position_of}
+use Rattle.cdl_values.proofs.Prelude.{word_value, BadName, target_at, target_of, position_of, rules, refl, if◌then◌else◌, Err}
 use Rattle.cdl_values.specs.declared.data.FoundTarget.{FoundTarget}
 use Rattle.cdl_values.proofs.AllowedNames.{not_allowed, refused}
 use Rattle.cdl_values.proofs.data.target_of.Goals as goal

@@ -1,5 +1,4 @@
-use Rattle.std.proofs.Common.{rules, arith, ◌≡◌, ◌+◌, ◌<◌, ◌++◌, ◌∷◌, [], drop, length, sym, ap, ◌∙◌, append-nil, get_or, true, false}
-use Rattle.cdl_values.proofs.Prelude.{common_steps, word_value, is_escape}
+use Rattle.cdl_values.proofs.Prelude.{common_steps, word_value, is_escape, rules, arith, ◌≡◌, ◌+◌, ◌<◌, ◌++◌, ◌∷◌, [], drop, length, sym, ap, ◌∙◌, append-nil, get_or, true, false}
 use Rattle.cdl_tokens.proofs.Words.{value_escape, value_byte, value_past, so_far, escape_inside}
 use Rattle.cdl_values.proofs.name.name_of_word.Goals as goal
 

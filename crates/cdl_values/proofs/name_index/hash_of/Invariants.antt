@@ -1,5 +1,4 @@
-use Rattle.std.proofs.Common.{◌≡◌, drop}
-use Rattle.cdl_values.proofs.Prelude.{hash_of, hash_on}
+use Rattle.cdl_values.proofs.Prelude.{hash_of, hash_on, ◌≡◌, drop}
 use Rattle.cdl_values.proofs.name_index.hash_of.Given as goal
 
 -- taken on over the bytes that are left, the hash is that of the name

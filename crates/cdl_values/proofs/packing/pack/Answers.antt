@@ -1,5 +1,4 @@
-use Rattle.std.proofs.Common.{rules, sym, ap, ◌∙◌, [], List, Ok, subst, Result, ℕ, if◌then◌else◌}
-use Rattle.cdl_values.proofs.Prelude.{CdlKind, values, lexeme, next_token, text_of, version_of, words, lexeme_of, going, ending, first_word, FailsRead, packed, joined}
+use Rattle.cdl_values.proofs.Prelude.{CdlKind, values, lexeme, next_token, text_of, version_of, words, lexeme_of, going, ending, first_word, FailsRead, packed, joined, rules, sym, ap, ◌∙◌, [], List, Ok, subst, Result, ℕ, if◌then◌else◌}
 use Rattle.nc_base.specs.declared.listed_array.ListedArray.{ListedArray}
 use Rattle.cdl_values.proofs.AllowedNames.{refused}
 use Rattle.cdl_values.proofs.PackedTokens.{none_packed}

@@ -1,5 +1,4 @@
-use Rattle.std.proofs.Common.{◌≡◌, ◌-◌, length, false, Ok}
-use Rattle.cdl_values.proofs.Prelude.{words, is_done, offset_of, text_of, version_of, values, packed, joined}
+use Rattle.cdl_values.proofs.Prelude.{words, is_done, offset_of, text_of, version_of, values, packed, joined, ◌≡◌, ◌-◌, length, false, Ok}
 use Rattle.cdl_values.proofs.packing.pack.Given as goal
 
 abbrev pub invariant-tokens : goal.invariant-tokens

@@ -1,5 +1,4 @@
-use Rattle.std.proofs.Common.{rules, ◌≡◌, sym, ap, ◌∙◌, [], Ok}
-use Rattle.cdl_values.proofs.Prelude.{values, lexeme, first_bad, completes, after, next_token, text_of, version_of, words, lexeme_of, going, ending, good_on, good_end, packed, joined}
+use Rattle.cdl_values.proofs.Prelude.{values, lexeme, first_bad, completes, after, next_token, text_of, version_of, words, lexeme_of, going, ending, good_on, good_end, packed, joined, rules, ◌≡◌, sym, ap, ◌∙◌, [], Ok}
 use Rattle.cdl_values.proofs.PackedTokens.{none_packed}
 use Rattle.cdl_values.proofs.packing.pack_and_check.Goals as goal
 

@@ -1,5 +1,4 @@
-use Rattle.std.proofs.Common.{◌≡◌, ◌-◌, length, true, false, Ok}
-use Rattle.cdl_values.proofs.Prelude.{words, after, is_done, offset_of, text_of, version_of, first_bad, completes, values, packed, joined}
+use Rattle.cdl_values.proofs.Prelude.{words, after, is_done, offset_of, text_of, version_of, first_bad, completes, values, packed, joined, ◌≡◌, ◌-◌, length, true, false, Ok}
 use Rattle.cdl_statements.specs.declared.due.Due.TheVariants.{Value}
 use Rattle.cdl_values.proofs.packing.pack_and_check.Given as goal
 

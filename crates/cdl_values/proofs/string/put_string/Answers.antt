@@ -1,5 +1,4 @@
-use Rattle.std.proofs.Common.{◌≤◌, arith, length, append-nil}
-use Rattle.cdl_values.proofs.Prelude.{unescape_past}
+use Rattle.cdl_values.proofs.Prelude.{unescape_past, ◌≤◌, arith, length, append-nil}
 use Rattle.cdl_values.proofs.string.put_string.Goals as goal
 
 pub returns-then-is_empty : goal.returns-then-is_empty

@@ -1,6 +1,5 @@
-use Rattle.std.proofs.Common.{arith, take, drop}
+use Rattle.cdl_values.proofs.Prelude.{stands_run, string_value, arith, take, drop}
 use Rattle.cdl_values.proofs.ConstantBytes.{put_on}
-use Rattle.cdl_values.proofs.Prelude.{stands_run, string_value}
 use Rattle.cdl_values.proofs.string.put_unescaped.Goals as goal
 
 pub returns-clause-put : goal.returns-clause-put

@@ -1,5 +1,4 @@
-use Rattle.std.proofs.Common.{rules, ◌≡◌, ◌-◌, ◌<◌, sym, ap, ◌∙◌, subst, nat_lt, length, false, pos, slice_index, unsigned_abs}
-use Rattle.cdl_values.proofs.Prelude.{w128, to_z-of_z, IsInRange, dim_len, Char, takes_of}
+use Rattle.cdl_values.proofs.Prelude.{w128, to_z-of_z, IsInRange, dim_len, Char, takes_of, rules, ◌≡◌, ◌-◌, ◌<◌, sym, ap, ◌∙◌, subst, nat_lt, length, false, pos, slice_index, unsigned_abs}
 use Rattle.cdl_values.proofs.Places.{char_byte, some_row, takes_rows}
 use Rattle.cdl_values.proofs.targets.characters.Goals as goal
 

@@ -1,5 +1,4 @@
-use Rattle.std.proofs.Common.{◌∙◌}
-use Rattle.cdl_values.proofs.Prelude.{w128, to_z-of_z}
+use Rattle.cdl_values.proofs.Prelude.{w128, to_z-of_z, ◌∙◌}
 use Rattle.cdl_values.proofs.Places.{no_char, takes_numbers}
 use Rattle.cdl_values.proofs.targets.form.Goals as goal
 

@@ -1,5 +1,4 @@
-use Rattle.std.proofs.Common.{◌≡◌, ◌+◌, ◌*◌, min, get_or, drop, map, arith, ◌∙◌, ap}
-use Rattle.cdl_values.proofs.Prelude.{dim_len, product, most}
+use Rattle.cdl_values.proofs.Prelude.{dim_len, product, most, ◌≡◌, ◌+◌, ◌*◌, min, get_or, drop, map, arith, ◌∙◌, ap}
 use Rattle.nc_base.proofs.SizeLaws.{capped_more, capped_all}
 use Rattle.cdl_values.proofs.targets.place_count.Goals as goal
 

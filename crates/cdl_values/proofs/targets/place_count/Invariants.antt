@@ -1,5 +1,4 @@
-use Rattle.std.proofs.Common.{◌≡◌, ◌*◌, ◌≤◌, drop, map, min}
-use Rattle.cdl_values.proofs.Prelude.{dim_len, product, most}
+use Rattle.cdl_values.proofs.Prelude.{dim_len, product, most, ◌≡◌, ◌*◌, ◌≤◌, drop, map, min}
 use Rattle.cdl_values.proofs.targets.place_count.Given as goal
 
 -- what has been multiplied, times the lengths that are left, keeps the capped product

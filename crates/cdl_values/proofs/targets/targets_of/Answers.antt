@@ -1,5 +1,4 @@
-use Rattle.std.proofs.Common.{◌≡◌, ◌++◌, ◌∷◌, [], take, arith}
-use Rattle.cdl_values.proofs.Prelude.{common_steps, unlisted_drafts, unlisted_draft}
+use Rattle.cdl_values.proofs.Prelude.{common_steps, unlisted_drafts, unlisted_draft, ◌≡◌, ◌++◌, ◌∷◌, [], take, arith}
 use Rattle.cdl_values.proofs.Places.{suit_more, fresh_more, shape_at}
 use Rattle.cdl_values.proofs.targets.targets_of.Goals as goal
 

@@ -1,5 +1,4 @@
-use Rattle.std.proofs.Common.{take}
-use Rattle.cdl_values.proofs.Prelude.{AreShaped, unlisted_drafts, AllSuit}
+use Rattle.cdl_values.proofs.Prelude.{AreShaped, unlisted_drafts, AllSuit, take}
 use Rattle.cdl_values.proofs.targets.targets_of.Given as goal
 
 -- the targets so far suit the variables so far

@@ -1,5 +1,4 @@
-use Rattle.std.proofs.Common.{rules, ◌≡◌, sym, ◌∙◌, Ok, false, Some, option_map}
-use Rattle.cdl_values.proofs.Prelude.{value_of, parts, held, joined, held_bytes, is_full}
+use Rattle.cdl_values.proofs.Prelude.{value_of, parts, held, joined, held_bytes, is_full, rules, ◌≡◌, sym, ◌∙◌, Ok, false, Some, option_map}
 use Rattle.cdl_values.proofs.Ranges.{number_added}
 use Rattle.cdl_values.proofs.value.put_checked_number.Goals as goal
 

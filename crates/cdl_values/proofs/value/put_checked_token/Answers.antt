@@ -1,5 +1,4 @@
-use Rattle.std.proofs.Common.{ap, Ok}
-use Rattle.cdl_values.proofs.Prelude.{is_mark_kind, lexeme_of, packed, joined, past_mark}
+use Rattle.cdl_values.proofs.Prelude.{is_mark_kind, lexeme_of, packed, joined, past_mark, ap, Ok}
 use Rattle.cdl_values.proofs.value.put_checked_token.Goals as goal
 
 pub returns-in-Mark-clause-packs : goal.returns-in-Mark-clause-packs

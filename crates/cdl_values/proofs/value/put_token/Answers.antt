@@ -1,5 +1,4 @@
-use Rattle.std.proofs.Common.{rules, ap, Ok, length-drop}
-use Rattle.cdl_values.proofs.Prelude.{is_mark_kind, lexeme_of, packed, joined, past_mark}
+use Rattle.cdl_values.proofs.Prelude.{is_mark_kind, lexeme_of, packed, joined, past_mark, rules, ap, Ok, length-drop}
 use Rattle.cdl_values.proofs.AllowedNames.{stopped}
 use Rattle.cdl_values.proofs.PackedTokens.{over_value, refused, no_mark, token_packed}
 use Rattle.cdl_values.proofs.value.put_token.Goals as goal

@@ -1,8 +1,7 @@
-use Rattle.std.proofs.Common.{rules, ◌≡◌, ◌++◌, Bool, sym, ap, ◌∙◌, subst, Ok, refl}
+use Rattle.cdl_values.proofs.Prelude.{NcType, bytes_of_number, held_bytes, joined, capacity_minus, Numbers, PassesUnderscore, TakesValues, rules, ◌≡◌, ◌++◌, Bool, sym, ap, ◌∙◌, subst, Ok, refl}
 use Rattle.cdl_statements.proofs.InRange.{has_it}
-use Rattle.cdl_statements.specs.code.NumberLists as lists
-use Rattle.cdl_statements.specs.declared.{number_list.NumberList.NumberList}
-use Rattle.cdl_values.proofs.Prelude.{NcType, bytes_of_number, held_bytes, joined, capacity_minus, Numbers, PassesUnderscore, TakesValues}
+use Rattle.cdl_statements.specs.code.ValueLists as lists
+use Rattle.cdl_statements.specs.declared.{value_list.ValueList.ValueList}
 use Rattle.cdl_values.proofs.ValueRuns.{fill_on, number_on, reached}
 use Rattle.cdl_values.proofs.value_run.put_next_number.Goals as goal
 
@@ -24,7 +23,7 @@ returns-then-underscore_and_comma-clause-more c = λ _ left room.
     let new = c.pack_number.new.array in
     let rest = lists.reached c.underscore_and_comma.new.self in
     let same : c.number_and_comma.new.self ≡ a.list.now = c.number_and_comma.ensures.stays c.in_default.is in
-    let passes = subst (λ (l : NumberList). PassesUnderscore (lists.reached l) rest) same (c.underscore_and_comma.ensures.passes c.if-underscore_and_comma.true) in
+    let passes = subst (λ (l : ValueList). PassesUnderscore (lists.reached l) rest) same (c.underscore_and_comma.ensures.passes c.if-underscore_and_comma.true) in
     let adds : new ≡ a.array.now ++ bytes_of_number a.fill.ty a.fill.value = search rules in
     let start = reached (lists.reached a.list.now) a.array.now left in
     let after = reached rest new (capacity_minus 1 left) in

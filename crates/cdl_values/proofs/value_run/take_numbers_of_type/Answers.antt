@@ -1,7 +1,6 @@
-use Rattle.std.proofs.Common.{arith, ◌≡◌, ◌-◌, ℕ, List, false, sym, ◌∙◌, subst, subst₂}
-use Rattle.cdl_values.proofs.Prelude.{at_same_comma, is_full, capacity_minus, place, Capacity, Cutter, Numbers, TakesValues}
-use Rattle.cdl_statements.specs.code.NumberLists as lists
-use Rattle.cdl_statements.specs.declared.{number_list.NumberList.NumberList}
+use Rattle.cdl_values.proofs.Prelude.{at_same_comma, is_full, capacity_minus, place, Capacity, Cutter, Numbers, TakesValues, arith, ◌≡◌, ◌-◌, ℕ, List, false, sym, ◌∙◌, subst, subst₂}
+use Rattle.cdl_statements.specs.code.ValueLists as lists
+use Rattle.cdl_statements.specs.declared.{value_list.ValueList.ValueList}
 use Rattle.cdl_values.proofs.ValueRuns.{ended_at, reached, stays, takes_further}
 use Rattle.cdl_values.proofs.value_run.take_numbers_of_type.Goals as goal
 use Rattle.cdl_values.proofs.value_run.take_numbers_of_type.Goals.{else-numbers-test, then-numbers-test+in_ok-put_next_number+then-not-branch}
@@ -45,7 +44,7 @@ returns c =
     let r = c.after_values in
     let left = capacity_minus (c.limit-room.result - l.left) a.start.capacity in
     let start = place a.start a.array.now in
-    let ended_in : NumberList → List ℕ → Type 0 = λ list bytes. TakesValues a.takes_fill (Numbers a.fill) start (reached (lists.reached list) bytes left) in
+    let ended_in : ValueList → List ℕ → Type 0 = λ list bytes. TakesValues a.takes_fill (Numbers a.fill) start (reached (lists.reached list) bytes left) in
     let so : ended_in c.numbers-test.list c.numbers-test.array = elim c.numbers-test.branch [
       | else-numbers-test w ↦ subst₂ ended_in (sym w.list-is) (sym w.array-is) l.invariant.so
       | then-numbers-test+in_ok-put_next_number+then-not-branch w ↦

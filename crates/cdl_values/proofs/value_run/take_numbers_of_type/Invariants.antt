@@ -1,6 +1,5 @@
-use Rattle.std.proofs.Common.{◌-◌, ◌≤◌}
-use Rattle.cdl_values.proofs.Prelude.{IsAtComma, capacity_minus, TakesValues, place, Numbers}
-use Rattle.cdl_statements.specs.code.NumberLists as lists
+use Rattle.cdl_values.proofs.Prelude.{IsAtComma, capacity_minus, TakesValues, place, Numbers, ◌-◌, ◌≤◌}
+use Rattle.cdl_statements.specs.code.ValueLists as lists
 use Rattle.cdl_values.proofs.ValueRuns.{reached}
 use Rattle.cdl_values.proofs.value_run.take_numbers_of_type.Given as goal
 

@@ -1,5 +1,4 @@
-use Rattle.std.proofs.Common.{sym, ◌∙◌}
-use Rattle.cdl_values.proofs.Prelude.{lexeme_of, place}
+use Rattle.cdl_values.proofs.Prelude.{lexeme_of, place, sym, ◌∙◌}
 use Rattle.cdl_values.proofs.ValueRuns.{reached, takes_further, token_on}
 use Rattle.cdl_values.proofs.value_run.take_values.Goals as goal
 

@@ -1,5 +1,4 @@
-use Rattle.std.proofs.Common.{◌-◌, ◌≡◌, length}
-use Rattle.cdl_values.proofs.Prelude.{offset_of, text_of, version_of, IsAtComma, TakesValues, place}
+use Rattle.cdl_values.proofs.Prelude.{offset_of, text_of, version_of, IsAtComma, TakesValues, place, ◌-◌, ◌≡◌, length}
 use Rattle.cdl_values.proofs.value_run.take_values.Given as goal
 
 abbrev pub invariant-values : goal.invariant-values

@@ -1,5 +1,4 @@
-use Rattle.std.proofs.Common.{◌≡◌, drop}
-use Rattle.nccheck.proofs.Prelude.{texts_of}
+use Rattle.nccheck.proofs.Prelude.{texts_of, ◌≡◌, drop}
 use Rattle.std.specs.List.{list_all}
 use Rattle.nccheck.specs.KindWords.{is_kind_word}
 use Rattle.nccheck.proofs.command_line.are_kinds.Given as goal

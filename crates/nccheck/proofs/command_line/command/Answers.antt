@@ -1,5 +1,4 @@
-use Rattle.std.proofs.Common.{rules, ◌≡◌, ◌∙◌, ap₂, codes}
-use Rattle.nccheck.proofs.Prelude.{app_of, new_app, rule_of, with_rule, flag, option, quiet, nccheck}
+use Rattle.nccheck.proofs.Prelude.{app_of, new_app, rule_of, with_rule, flag, option, quiet, nccheck, rules, ◌≡◌, ◌∙◌, ap₂, codes}
 use Rattle.std.proofs.lemmas.Result.{IfOk-weaker}
 use Rattle.nccheck.proofs.command_line.command.Goals as goal
 

@@ -1,5 +1,4 @@
-use Rattle.std.proofs.Common.{◌∙◌, ap, subst, sym, Option}
-use Rattle.nccheck.proofs.Prelude.{texts_of, App, HasKind, fault_of, found_of, is_simple, is_simple_and_free, kind_of, matches_of, rows_of, AnswersBy, Asked, asked_for}
+use Rattle.nccheck.proofs.Prelude.{texts_of, App, HasKind, fault_of, found_of, is_simple, is_simple_and_free, kind_of, matches_of, rows_of, AnswersBy, Asked, asked_for, ◌∙◌, ap, subst, sym, Option}
 use Rattle.nccheck.proofs.CommandLines.{asked_by_taken, is_exact, is_plain, refused_words}
 use Rattle.nccheck.proofs.command_line.options_of_words.Goals as goal
 

@@ -1,5 +1,4 @@
-use Rattle.std.proofs.Common.{◌∙◌, ap, lit<}
-use Rattle.nccheck.proofs.Prelude.{texts_of}
+use Rattle.nccheck.proofs.Prelude.{texts_of, ◌∙◌, ap, lit<}
 use Rattle.std.proofs.lemmas.Iterator.Consumers.{map_from_collect}
 use Rattle.std.proofs.lemmas.Iterator.Splits.{YieldsList-from_str_split}
 use Rattle.nccheck.proofs.command_line.parts_of.Goals as goal

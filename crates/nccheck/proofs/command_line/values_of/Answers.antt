@@ -1,5 +1,4 @@
-use Rattle.std.proofs.Common.{◌∙◌}
-use Rattle.nccheck.proofs.Prelude.{found_of}
+use Rattle.nccheck.proofs.Prelude.{found_of, ◌∙◌}
 use Rattle.clap.proofs.WalkLemmas.{raw_values-rows}
 use Rattle.nccheck.proofs.command_line.values_of.Goals as goal
 

@@ -1,5 +1,4 @@
-use Rattle.std.proofs.Common.{ℕ, ◌≡◌, ◌∙◌, ◌+◌, ◌<◌, List, [], ◌∷◌, ◌++◌, length, map, Some, None, Option, ap, sym, get_or, take, drop, take-append-drop, arith}
-use Rattle.nccheck.proofs.Prelude.{fun_ext, map-append, take_more, texts_of, Bytes, Item, Path, Asked, Openings, State, no_files, Counts, Tally}
+use Rattle.nccheck.proofs.Prelude.{fun_ext, map-append, take_more, texts_of, Bytes, Item, Path, Asked, Openings, State, no_files, Counts, Tally, ℕ, ◌≡◌, ◌∙◌, ◌+◌, ◌<◌, List, [], ◌∷◌, ◌++◌, length, map, Some, None, Option, ap, sym, get_or, take, drop, take-append-drop, arith}
 use Rattle.std.specs.Borrow.{Bor}
 use Rattle.nccheck.proofs.InTurn.{counts_stop, counts_then}
 use Rattle.nccheck.proofs.counting.check_each.Goals as goal

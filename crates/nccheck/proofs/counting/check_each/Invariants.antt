@@ -1,5 +1,4 @@
-use Rattle.std.proofs.Common.{◌≤◌, map, Some, take}
-use Rattle.nccheck.proofs.Prelude.{texts_of, NamesAsBefore, Path, openings, state, no_files, total, Counts, asked_for}
+use Rattle.nccheck.proofs.Prelude.{texts_of, NamesAsBefore, Path, openings, state, no_files, total, Counts, asked_for, ◌≤◌, map, Some, take}
 use Rattle.nccheck.proofs.counting.check_each.Given as goal
 
 abbrev pub invariant-loop-file : goal.invariant-loop-file

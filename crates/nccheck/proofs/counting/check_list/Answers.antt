@@ -1,5 +1,4 @@
-use Rattle.std.proofs.Common.{◌∙◌, ◌≤◌, length, refl, arith}
-use Rattle.nccheck.proofs.Prelude.{fun_ext, length-take-le}
+use Rattle.nccheck.proofs.Prelude.{fun_ext, length-take-le, ◌∙◌, ◌≤◌, length, refl, arith}
 use Rattle.nccheck.proofs.Listing.{read_failed, read_more, read_none, read_stop, read_too_much, read_whole}
 use Rattle.nccheck.proofs.counting.check_list.Goals as goal
 

@@ -1,5 +1,4 @@
-use Rattle.std.proofs.Common.{◌+◌, ◌*◌, ◌≤◌}
-use Rattle.nccheck.proofs.Prelude.{view_of, NamesAsBefore, openings, state, total, asked_for}
+use Rattle.nccheck.proofs.Prelude.{view_of, NamesAsBefore, openings, state, total, asked_for, ◌+◌, ◌*◌, ◌≤◌}
 use Rattle.nccheck.proofs.Listing.{ReadUpTo}
 use Rattle.nccheck.proofs.counting.check_list.Given as goal
 

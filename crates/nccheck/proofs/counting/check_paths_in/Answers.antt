@@ -1,5 +1,4 @@
-use Rattle.std.proofs.Common.{ℕ, ◌≡◌, ◌∙◌, ◌+◌, ◌<◌, [], ◌∷◌, length, Some, None, Option, refl, sym, get_or, take, drop, take-append-drop, arith}
-use Rattle.nccheck.proofs.Prelude.{fun_ext, take_more, Bytes, Asked, Path, Openings, State, Counts, Takes, Tally}
+use Rattle.nccheck.proofs.Prelude.{fun_ext, take_more, Bytes, Asked, Path, Openings, State, Counts, Takes, Tally, ℕ, ◌≡◌, ◌∙◌, ◌+◌, ◌<◌, [], ◌∷◌, length, Some, None, Option, refl, sym, get_or, take, drop, take-append-drop, arith}
 use Rattle.nccheck.proofs.Listing.{takes_path, takes_stop, takes_then}
 use Rattle.nccheck.proofs.counting.check_paths_in.Goals as goal
 

@@ -1,5 +1,4 @@
-use Rattle.std.proofs.Common.{◌+◌, ◌≤◌, Some, take}
-use Rattle.nccheck.proofs.Prelude.{NamesAsBefore, openings, state, total, Takes, asked_for}
+use Rattle.nccheck.proofs.Prelude.{NamesAsBefore, openings, state, total, Takes, asked_for, ◌+◌, ◌≤◌, Some, take}
 use Rattle.nccheck.proofs.counting.check_paths_in.Given as goal
 
 abbrev pub invariant-loop-b : goal.invariant-loop-b

@@ -1,5 +1,4 @@
-use Rattle.std.proofs.Common.{◌≡◌, drop}
-use Rattle.nccheck.proofs.Prelude.{texts_of}
+use Rattle.nccheck.proofs.Prelude.{texts_of, ◌≡◌, drop}
 use Rattle.nccheck.specs.Info.{info_among}
 use Rattle.nccheck.proofs.info.info_among.Given as goal
 

@@ -1,5 +1,4 @@
-use Rattle.std.proofs.Common.{◌≡◌, ◌≤◌, true, arith, List, ℕ, length, nat_le}
-use Rattle.nccheck.proofs.Prelude.{is_path}
+use Rattle.nccheck.proofs.Prelude.{is_path, ◌≡◌, ◌≤◌, true, arith, List, ℕ, length, nat_le}
 use Rattle.std.specs.Str.{is_utf8}
 use Rattle.std.proofs.lemmas.Bool.{false_from_ne_true}
 use Rattle.std.proofs.lemmas.Bool.Decides.{nat_tests}

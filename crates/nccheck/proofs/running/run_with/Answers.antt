@@ -1,5 +1,4 @@
-use Rattle.std.proofs.Common.{inl, inr, refl}
-use Rattle.nccheck.proofs.Prelude.{state}
+use Rattle.nccheck.proofs.Prelude.{state, inl, inr, refl}
 use Rattle.nccheck.proofs.InTurn.{is_told}
 use Rattle.nccheck.proofs.running.run_with.Goals as goal
 

@@ -1,5 +1,4 @@
-use Rattle.std.proofs.Common.{rules, ◌≡◌, ◌∙◌, ap₂, codes}
-use Rattle.ncgen.proofs.Prelude.{IfOk-weaker, app_of, new_app, new_rule, rule_of, with_rule, flag, option, quiet, ncgen}
+use Rattle.ncgen.proofs.Prelude.{IfOk-weaker, app_of, new_app, new_rule, rule_of, with_rule, flag, option, quiet, ncgen, rules, ◌≡◌, ◌∙◌, ap₂, codes}
 use Rattle.ncgen.proofs.command_line.command.Goals as goal
 
 pub returns : goal.returns

@@ -1,7 +1,6 @@
-use Rattle.std.proofs.Common.{true, ◌≡◌, refl}
+use Rattle.ncgen.proofs.Prelude.{is_simple, is_simple_and_free, asked_by, asked_for, asked_in, ncgen, true, ◌≡◌, refl}
 use Rattle.clap.proofs.OnLiterals.{clap_on_literals}
 use Rattle.cli_base.proofs.Refusals.{refused_answers, taken_answers}
-use Rattle.ncgen.proofs.Prelude.{is_simple, is_simple_and_free, asked_by, asked_for, asked_in, ncgen}
 use Rattle.ncgen.proofs.command_line.options_of_words.Goals as goal
 
 -- the parse says all of the command's matches

@@ -1,5 +1,4 @@
-use Rattle.std.proofs.Common.{rules, ◌≡◌, Err, sym, subst, Result}
-use Rattle.ncgen.proofs.Prelude.{Generates, generated, GenFault}
+use Rattle.ncgen.proofs.Prelude.{Generates, generated, GenFault, rules, ◌≡◌, Err, sym, subst, Result}
 use Rattle.ncgen.proofs.Preparing.{refused-text}
 use Rattle.ncgen.proofs.generating.generate.Goals as goal
 

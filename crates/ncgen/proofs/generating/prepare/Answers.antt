@@ -1,5 +1,4 @@
-use Rattle.std.proofs.Common.{rules, ◌≡◌, Ok, Err, refl, sym, subst}
-use Rattle.ncgen.proofs.Prelude.{Header, generated, Prepares, Cdl, OffsetTooLarge, fits, with_begins, IsSound, record_slabs}
+use Rattle.ncgen.proofs.Prelude.{Header, generated, Prepares, Cdl, OffsetTooLarge, fits, with_begins, IsSound, record_slabs, rules, ◌≡◌, Ok, Err, refl, sym, subst}
 use Rattle.ncgen.proofs.Preparing.{not-placed, placed, ready, sound, text-fault, too-large, whole}
 use Rattle.ncgen.proofs.generating.prepare.Goals as goal
 

@@ -1,5 +1,4 @@
-use Rattle.std.proofs.Common.{ℕ, List, ap, sym, ◌∙◌, subst}
-use Rattle.ncgen.proofs.Prelude.{err_from_is_err_and, generated, Refuses}
+use Rattle.ncgen.proofs.Prelude.{err_from_is_err_and, generated, Refuses, ℕ, List, ap, sym, ◌∙◌, subst}
 use Rattle.ncgen.proofs.running.read_and_prepare.Goals as goal
 
 -- the text was read, and gives no file

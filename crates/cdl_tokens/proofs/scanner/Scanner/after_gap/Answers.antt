@@ -1,5 +1,4 @@
-use Rattle.std.proofs.Common.{arith, drop}
-use Rattle.cdl_tokens.proofs.Prelude.{get_or-drop}
+use Rattle.cdl_tokens.proofs.Prelude.{get_or-drop, arith, drop}
 use Rattle.cdl_tokens.proofs.Gaps.{gap_feeds}
 use Rattle.cdl_tokens.proofs.Scans.{line_more}
 use Rattle.cdl_tokens.proofs.scanner.Scanner.after_gap.Goals as goal

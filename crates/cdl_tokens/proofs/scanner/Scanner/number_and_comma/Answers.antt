@@ -1,5 +1,4 @@
-use Rattle.std.proofs.Common.{◌≡◌, ℕ, List, sym, ap, ◌∙◌, count_by, take, subst, ◌==◌, option_map, slice_index}
-use Rattle.cdl_tokens.proofs.Prelude.{get_or-drop, IsComma, scan, token, Number, held, parts, raw}
+use Rattle.cdl_tokens.proofs.Prelude.{get_or-drop, IsComma, scan, token, Number, held, parts, raw, ◌≡◌, ℕ, List, sym, ap, ◌∙◌, count_by, take, subst, ◌==◌, option_map, slice_index}
 use Rattle.cdl_tokens.proofs.PlainTokens.{scan_number, number_flat}
 use Rattle.cdl_tokens.proofs.scanner.Scanner.number_and_comma.Goals as goal
 

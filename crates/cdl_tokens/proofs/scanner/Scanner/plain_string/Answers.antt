@@ -1,5 +1,4 @@
-use Rattle.std.proofs.Common.{◌≡◌, sym, ap, ◌∙◌, count_by, take, ◌==◌}
-use Rattle.cdl_tokens.proofs.Prelude.{inner, string_value, scan, raw}
+use Rattle.cdl_tokens.proofs.Prelude.{inner, string_value, scan, raw, ◌≡◌, sym, ap, ◌∙◌, count_by, take, ◌==◌}
 use Rattle.cdl_tokens.proofs.scanner.Scanner.plain_string.Goals as goal
 
 pub take-requires-clause-here : goal.take-requires-clause-here

@@ -1,5 +1,4 @@
-use Rattle.std.proofs.Common.{arith, ◌+◌, ℕ, sym, ap, ◌∙◌, false}
-use Rattle.cdl_tokens.proofs.Prelude.{scan, Token, left, followed}
+use Rattle.cdl_tokens.proofs.Prelude.{scan, Token, left, followed, arith, ◌+◌, ℕ, sym, ap, ◌∙◌, false}
 use Rattle.cdl_tokens.proofs.Scans.{step_token, step_gap, step_end, left_of}
 use Rattle.cdl_tokens.proofs.scanner.Scanner.scanned_token.Goals as goal
 

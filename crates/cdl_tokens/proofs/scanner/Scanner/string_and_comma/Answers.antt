@@ -1,5 +1,4 @@
-use Rattle.std.proofs.Common.{ℕ, List, ◌∙◌, subst}
-use Rattle.cdl_tokens.proofs.Prelude.{IsComma}
+use Rattle.cdl_tokens.proofs.Prelude.{IsComma, ℕ, List, ◌∙◌, subst}
 use Rattle.cdl_tokens.specs.code.PlainTokens.{IsPlainString}
 use Rattle.cdl_tokens.proofs.scanner.Scanner.string_and_comma.Goals as goal
 

@@ -1,5 +1,4 @@
-use Rattle.std.proofs.Common.{◌≡◌, sym, ap, ◌∙◌, true, count_by, take, ◌==◌}
-use Rattle.cdl_tokens.proofs.Prelude.{is_mark_byte, is_digit, scan, token, begins_number, Number}
+use Rattle.cdl_tokens.proofs.Prelude.{is_mark_byte, is_digit, scan, token, begins_number, Number, ◌≡◌, sym, ap, ◌∙◌, true, count_by, take, ◌==◌}
 use Rattle.cdl_tokens.proofs.PlainTokens.{scan_mark, scan_number, digit_number, number_flat}
 use Rattle.cdl_tokens.proofs.scanner.Scanner.token.Goals as goal
 

@@ -1,5 +1,4 @@
-use Rattle.std.proofs.Common.{ℕ, List, sym, ap, ◌∙◌, count_by, take, subst, ◌==◌}
-use Rattle.cdl_tokens.proofs.Prelude.{IsComma, scan, raw}
+use Rattle.cdl_tokens.proofs.Prelude.{IsComma, scan, raw, ℕ, List, sym, ap, ◌∙◌, count_by, take, subst, ◌==◌}
 use Rattle.cdl_tokens.proofs.scanner.Scanner.underscore_and_comma.Goals as goal
 
 pub take-token-requires-clause-here : goal.take-token-requires-clause-here

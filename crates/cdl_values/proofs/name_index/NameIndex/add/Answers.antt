@@ -1,5 +1,4 @@
-use Rattle.std.proofs.Common.{rules, ◌≡◌, ◌∙◌, refl, sym, ap, length, map, None, Some, true, is_some, subst, ◌++◌, ◌∷◌, []}
-use Rattle.cdl_values.proofs.Prelude.{length-map, IsIndex, first_with_hash, hash_of, position_of}
+use Rattle.cdl_values.proofs.Prelude.{length-map, IsIndex, first_with_hash, hash_of, position_of, rules, ◌≡◌, ◌∙◌, refl, sym, ap, length, map, None, Some, true, is_some, subst, ◌++◌, ◌∷◌, []}
 use Rattle.std.specs.BTreeMap.{Updates}
 use Rattle.std.specs.Cmp.Lexicographic.{slice_cmp}
 use Rattle.std.specs.Ordering.{nat_cmp}

@@ -1,5 +1,4 @@
-use Rattle.std.proofs.Common.{rules, ◌≡◌, ◌∙◌, sym, map, None, Some, arith, true, false}
-use Rattle.cdl_values.proofs.Prelude.{bytes_eq, first_with_hash, hash_of, later_position}
+use Rattle.cdl_values.proofs.Prelude.{bytes_eq, first_with_hash, hash_of, later_position, rules, ◌≡◌, ◌∙◌, sym, map, None, Some, arith, true, false}
 use Rattle.cdl_values.proofs.NamePositions.{absent, item_within, item_here, item_elsewhere}
 use Rattle.cdl_values.proofs.name_index.NameIndex.find.Goals as goal
 

@@ -2,7 +2,7 @@ use Rattle.cdl_statements.proofs.Prelude.{◌≡◌, ℕ, List, [], ◌∷◌, r
 use Rattle.cdl_tokens.specs.code.Scanners as scanners
 use Rattle.cdl_tokens.specs.declared.token.TokenKind.TheVariants as kinds
 use Rattle.cdl_statements.proofs.ListedTokens.{passes}
-use Rattle.cdl_statements.proofs.number_list.NumberList.underscore_and_comma.Goals as goal
+use Rattle.cdl_statements.proofs.value_list.ValueList.underscore_and_comma.Goals as goal
 
 -- no word of a section
 underscore_role : role_of kinds.Word (0x5f ∷ []) ≡ Other

@@ -2,7 +2,7 @@
 
 ghost use Rattle.std.specs.Prelude.{◌≡◌, IfSome, None, false, true};
 ghost use Rattle.cdl_statements.specs.code.ListedTokens.{EndsAtScanner, IsAtComma, PassesNumber, PassesString, PassesUnderscore};
-ghost use Rattle.cdl_statements.specs.code.NumberLists.{SamePlace, reached};
+ghost use Rattle.cdl_statements.specs.code.ValueLists.{SamePlace, reached};
 
 use crate::cutter::Cutter;
 use cdl_tokens::{Numeral, Scanner};
@@ -11,24 +11,24 @@ use cdl_tokens::{Numeral, Scanner};
 /// `b`, `s` or `l`), a `_`, or a plain string (one without an escape or a line feed).
 ///
 /// Only the scanner moves from value to value. The token of the last comma is made once, when the caller leaves the list by
-/// [`cutter`](NumberList::cutter).
+/// [`cutter`](ValueList::cutter).
 #[derive(Clone, Copy)]
-pub struct NumberList<'a> {
+pub struct ValueList<'a> {
     /// The cutter at the first comma.
     start: Cutter<'a>,
     /// The scanner after the comma that was read last.
     scanner: Scanner<'a>,
 }
 
-impl<'a> NumberList<'a> {
+impl<'a> ValueList<'a> {
     /// Creates the list of the values after a comma. Needs a `start` that has this comma as its next token, and whose scanner stands just
     /// after the comma.
     #[inline(always)]
-    pub fn new(start: Cutter<'a>) -> NumberList<'a>
+    pub fn new(start: Cutter<'a>) -> ValueList<'a>
         requires { EndsAtScanner start }
         ensures { SamePlace (reached result) start.entry }
     {
-        NumberList {
+        ValueList {
             start,
             scanner: start.scanner(),
         }
@@ -67,7 +67,8 @@ impl<'a> NumberList<'a> {
     #[inline(always)]
     pub fn string_and_comma(&mut self) -> Option<&'a [u8]>
         requires { IsAtComma (reached self.old) }
-        ensures passes { IfSome result (λ bytes. PassesString (reached self.old) (reached self.new) bytes.now) }
+        ensures passes { IfSome result (λ bytes.
+            PassesString (reached self.old) (reached self.new) bytes.now) }
         ensures stays { result ≡ None → self.new ≡ self.old }
     {
         let text = self.scanner.text();

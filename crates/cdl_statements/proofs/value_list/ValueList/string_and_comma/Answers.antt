@@ -1,10 +1,9 @@
-use Rattle.std.proofs.Common.{◌≡◌, ◌+◌, ◌-◌, ◌≤◌, ℕ, List, length, take, drop, refl, sym, ap, ◌∙◌, subst, arith}
+use Rattle.cdl_statements.proofs.Prelude.{raw, TokenKind, Passes, reached, role_of, lexeme_with, ◌≡◌, ◌+◌, ◌-◌, ◌≤◌, ℕ, List, length, take, drop, refl, sym, ap, ◌∙◌, subst, arith}
 use Rattle.std.proofs.lemmas.List.{drop-drop, drop-take, length-drop, length-take-le, take-take}
 use Rattle.cdl_tokens.specs.Escapes.{inner}
 use Rattle.cdl_tokens.specs.code.Scanners as scanners
-use Rattle.cdl_statements.proofs.Prelude.{raw, TokenKind, Passes, reached, role_of, lexeme_with}
 use Rattle.cdl_statements.proofs.ListedTokens.{passes}
-use Rattle.cdl_statements.proofs.number_list.NumberList.string_and_comma.Goals as goal
+use Rattle.cdl_statements.proofs.value_list.ValueList.string_and_comma.Goals as goal
 
 -- the bytes between two quotes
 between : (text : List ℕ) (first past : ℕ) → first + 2 ≤ past → past ≤ length text → inner (take (past - first) (drop first text)) ≡ take (past - 1 - (first + 1)) (drop (first + 1) text)

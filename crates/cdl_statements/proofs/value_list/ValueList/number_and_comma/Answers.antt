@@ -1,7 +1,7 @@
 use Rattle.cdl_statements.proofs.Prelude.{refl, sym, ap, subst, raw, TokenKind, Passes, reached, role_of, lexeme_with}
 use Rattle.cdl_tokens.specs.code.Scanners as scanners
 use Rattle.cdl_statements.proofs.ListedTokens.{passes}
-use Rattle.cdl_statements.proofs.number_list.NumberList.number_and_comma.Goals as goal
+use Rattle.cdl_statements.proofs.value_list.ValueList.number_and_comma.Goals as goal
 
 pub returns-clause-passes : goal.returns-clause-passes
 returns-clause-passes c =

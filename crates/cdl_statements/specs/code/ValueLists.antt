@@ -1,13 +1,13 @@
--- For contracts. Where a list of plain numbers stands.
+-- For contracts. Where a list of plain values stands.
 use Rattle.std.specs.Prelude.{◌≡◌, refl}
 use Rattle.cdl_tokens.specs.code.Scanners.{comma_before}
 use Rattle.cdl_tokens.specs.code.Scanners as scanners
 use Rattle.cdl_statements.specs.code.Cutters.{is_done, next_token, version_of}
 use Rattle.cdl_statements.specs.Pieces.{role_in}
-use Rattle.cdl_statements.specs.declared.{cutter.Cutter.Cutter, number_list.NumberList.NumberList}
+use Rattle.cdl_statements.specs.declared.{cutter.Cutter.Cutter, value_list.ValueList.ValueList}
 
 -- the cutter that has gone on to the comma before the list's scanner
-abbrev pub reached : NumberList → Cutter
+abbrev pub reached : ValueList → Cutter
 reached l = record {
   scanner = l.scanner;
   version = l.start.version;
