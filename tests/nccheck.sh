@@ -21,18 +21,33 @@ stdout "cut.nc:500: error: $missing\ncut.nc:500: error: $missing\n"
 run "$nccheck" -l error cut.nc records.nc cut.nc
 verdict files_in_order 1
 stdout "cut.nc:500: error: $missing\n"
-stderr 'nccheck: none.nc: cannot open\nnccheck: dir: cannot open\n'
+stderr 'nccheck: none.nc: cannot open: no such file\nnccheck: dir: cannot open: not a regular file\n'
 run "$nccheck" none.nc dir cut.nc
 verdict trouble_and_a_cut_file 2
 stdout '2 checked: 1 with errors, 0 with violations, 0 with notes, 1 with nothing to report; 2 not checked\n'
-stderr 'nccheck: none.nc: cannot open\nnccheck: dir: cannot open\n'
+stderr 'nccheck: none.nc: cannot open: no such file\nnccheck: dir: cannot open: not a regular file\n'
 run "$nccheck" -q -s none.nc dir cut.nc stations.nc
 verdict summary 2
+# (root may read any file, so another user tries it)
+cp cut.nc locked.nc
+chmod 000 locked.nc
+chmod 711 "$work" "$work/files"
+cp "$nccheck" checker
+other=()
+[ "$(id -u)" != 0 ] || other=(setpriv --reuid 65534 --regid 65534 --clear-groups)
+stderr 'nccheck: locked.nc: cannot open: permission denied\n'
+run "${other[@]}" ./checker locked.nc
+verdict file_that_may_not_be_read 2
+ln -s loop loop
+mkfifo pipe
+stderr 'nccheck: loop: cannot open\nnccheck: pipe: cannot open: not a regular file\n'
+run "$nccheck" loop pipe
+verdict link_to_itself_and_a_pipe 2
 # Paths on standard input
 stdout "cut.nc:500: error: $missing
 cut.nc:500: error: $missing
 3 checked: 2 with errors, 0 with violations, 0 with notes, 1 with nothing to report; 3 not checked\n"
-stderr 'nccheck: none.nc: cannot open\nnccheck: caf\\351.nc: cannot open\nnccheck: : cannot open\n'
+stderr 'nccheck: none.nc: cannot open: no such file\nnccheck: caf\\351.nc: cannot open\nnccheck: : cannot open: no such file\n'
 run bash -c 'printf "caf\351.nc\0\0stations.nc\0cut.nc" | "$0" -0 -s cut.nc none.nc' "$nccheck"
 verdict list_after_the_words 2
 run bash -c '"$0" -0 </dev/null' "$nccheck"
@@ -69,7 +84,7 @@ verdict version_is_that_of_the_file_VERSION 0
 run bash -c '"$0" -h | head -n 1' "$nccheck"
 stdout 'usage: nccheck [-q] [-s] [-0] [-l level] [-i kinds] [file ...]\n'
 verdict help_begins_with_the_usage 0
-stderr 'nccheck: -q: cannot open\n'
+stderr 'nccheck: -q: cannot open: no such file\n'
 run "$nccheck" -- -q
 verdict file_that_begins_with_a_dash 2
 run "$nccheck" -i missing,gap cut.nc

@@ -1,7 +1,8 @@
 //! What can go wrong with a device. The words for each error are those that the fault lines of the programs have.
 
 use std::error::Error;
-use std::fmt;
+use std::io::ErrorKind;
+use std::{fmt, io};
 
 /// A source failed to give bytes.
 #[derive(Clone, Copy, Debug, PartialEq, Eq)]
@@ -15,9 +16,29 @@ pub struct SinkFailed;
 #[derive(Clone, Copy, Debug, PartialEq, Eq)]
 pub struct WriteFailed;
 
-/// A path could not be opened, as a source or as a text.
+/// A path could not be opened, as a source or as a text: why, if the system tells it.
 #[derive(Clone, Copy, Debug, PartialEq, Eq)]
-pub struct OpenFailed;
+pub enum OpenFailed {
+    /// There is no such file.
+    NotFound,
+    /// The file may not be read, or a folder on the way to it may not be searched.
+    PermissionDenied,
+    /// There is something else at the path than what can be read: a folder, or, as a source, any other file that isn't a regular one.
+    NotRegular,
+    /// The system gives another reason.
+    Other,
+}
+
+impl From<io::Error> for OpenFailed {
+    /// Turns an error of the system into the reason that it tells, for the `?` after a call that opens a file.
+    fn from(error: io::Error) -> OpenFailed {
+        match error.kind() {
+            ErrorKind::NotFound => OpenFailed::NotFound,
+            ErrorKind::PermissionDenied => OpenFailed::PermissionDenied,
+            _ => OpenFailed::Other,
+        }
+    }
+}
 
 /// An output could not be created.
 #[derive(Clone, Copy, Debug, PartialEq, Eq)]
@@ -63,7 +84,7 @@ impl fmt::Display for WriteFailed {
 impl Error for WriteFailed {}
 
 impl fmt::Display for OpenFailed {
-    /// Writes `cannot open`.
+    /// Writes `cannot open`, without the reason.
     fn fmt<W: fmt::Write>(&self, f: &mut fmt::Formatter<W>) -> fmt::Result {
         f.write_str("cannot open")
     }

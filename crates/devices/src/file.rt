@@ -56,12 +56,12 @@ impl OpenFile {
         ensures handed { IfOk result (λ source. source.handed ≡ 0) }
     {
         // asked of the path, since to open a pipe is to wait for its writer
-        let named = fs::metadata(rt, path).map_err(|_| OpenFailed)?;
+        let named = fs::metadata(rt, path)?;
         if !named.is_file() {
-            return Err(OpenFailed);
+            return Err(OpenFailed::NotRegular);
         }
-        let file = File::open(rt, path).map_err(|_| OpenFailed)?;
-        let metadata = file.metadata().map_err(|_| OpenFailed)?;
+        let file = File::open(rt, path)?;
+        let metadata = file.metadata()?;
         Ok(OpenFile {
             file,
             len: metadata.len(),

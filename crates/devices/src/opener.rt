@@ -25,7 +25,7 @@ pub trait Opener {
     ///
     /// # Errors
     ///
-    /// The path can't be opened. The opener counts that it was asked, but no failure.
+    /// The path can't be opened: `NotFound` if contracts know that it names nothing. The opener counts that it was asked, but no failure.
     fn open(&mut self, path: &str) -> Result<Self::Source, OpenFailed>
         ensures once { OpensOnce (view self.old) (view self.new) }
         ensures failures { IfOk result (λ source. (Self.Source.view source).failures ≡ 0) }

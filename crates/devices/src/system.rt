@@ -34,10 +34,10 @@ impl<'a, R: Files<File = File>> SystemFiles<'a, R> {
     /// Opens the file at the path to be read as a text, so it may also be a pipe or a device. Errs if it can't be opened, if the system
     /// doesn't tell its kind, or if it is a directory: the system opens a directory, but fails to read from it.
     fn open_file(&self, path: &str) -> Result<File, OpenFailed> {
-        let file = File::open(self.rt, path).map_err(|_| OpenFailed)?;
-        let metadata = file.metadata().map_err(|_| OpenFailed)?;
+        let file = File::open(self.rt, path)?;
+        let metadata = file.metadata()?;
         if metadata.is_dir() {
-            return Err(OpenFailed);
+            return Err(OpenFailed::NotRegular);
         }
         Ok(file)
     }

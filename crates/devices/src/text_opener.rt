@@ -29,7 +29,7 @@ pub trait TextOpener {
     ///
     /// # Errors
     ///
-    /// The path can't be opened. The opener counts that it was asked, but no failure.
+    /// The path can't be opened: `NotFound` if contracts know that it names nothing. The opener counts that it was asked, but no failure.
     fn open_text(&mut self, path: &str) -> Result<CountedRead<Self::Text>, OpenFailed>
         ensures once { OpensOnce (view self.old) (view self.new) }
         ensures failures { IfOk result (λ text. (view_of Self.Text.remaining text).failures ≡ 0) }

@@ -1,6 +1,8 @@
 -- Definition. The faults of a run, and the lines that tell them.
 use Rattle.std.specs.Prelude.{[], ◌∷◌, codes}
 use Rattle.nc_base.specs.Bytes.{Bytes, concat_parts}
+use Rattle.devices.specs.declared.fault.OpenFailed.{OpenFailed}
+use Rattle.devices.specs.declared.fault.OpenFailed.TheVariants.{NotFound, PermissionDenied, NotRegular, Other}
 use Rattle.nc_fields.specs.declared.list_fault.ListFault.{ListFault}
 use Rattle.nc_fields.specs.declared.list_fault.ListFault.TheVariants as list
 use Rattle.cli_base.specs.declared.fault.OptFault.{OptFault}
@@ -13,8 +15,15 @@ abbrev pub fault_of_list : ListFault → FileFault
 fault_of_list list.OutOfMemory = OutOfMemory
 fault_of_list list.ReadFailed = ReadFailed
 
+-- a path can't be opened: why, if the system tells it
+unfoldable pub open_words : OpenFailed → Bytes
+open_words NotFound = codes "cannot open: no such file"
+open_words PermissionDenied = codes "cannot open: permission denied"
+open_words NotRegular = codes "cannot open: not a regular file"
+open_words Other = codes "cannot open"
+
 unfoldable pub fault_words : FileFault → Bytes
-fault_words CannotOpen = codes "cannot open"
+fault_words (CannotOpen why) = open_words why
 fault_words ReadFailed = codes "read failed"
 fault_words OutOfMemory = codes "out of memory"
 fault_words WriteFailed = codes "write failed"

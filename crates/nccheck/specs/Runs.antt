@@ -10,6 +10,7 @@ use Rattle.devices.specs.Openers.{OpenerView}
 use Rattle.devices.specs.Readers.{ReaderView}
 use Rattle.devices.specs.Sinks.{SinkView, Appended, FailedPartway}
 use Rattle.devices.specs.Uses.{Use}
+use Rattle.devices.specs.declared.fault.OpenFailed.TheVariants.{NotFound, Other}
 use Rattle.nc_report.specs.Reports.{IsReport}
 use Rattle.nc_fields.specs.declared.header.Listing.{Listing}
 use Rattle.nc_report.specs.declared.{finding.Finding.Finding, kind.Severity.Severity, report.Report.Report}
@@ -48,14 +49,14 @@ pub record BreaksOff (a : Asked) (bytes file : Bytes) (old new : SinkView) : Typ
 abbrev pub ChecksBytes : Asked → Bytes → Bytes → SinkView → SinkView → Answer → Type 0
 ChecksBytes a bytes file old new (Ok reported) = Checks a bytes file old new reported
 ChecksBytes a bytes file old new (Err WriteFailed) = BreaksOff a bytes file old new
-ChecksBytes a bytes file old new (Err CannotOpen) = ⊥
+ChecksBytes a bytes file old new (Err (CannotOpen why)) = ⊥
 ChecksBytes a bytes file old new (Err ReadFailed) = new ≡ old
 ChecksBytes a bytes file old new (Err OutOfMemory) = new ≡ old
 
--- the path can't be opened, and nothing was written
+-- there is no such file, and nothing was written
 abbrev pub Unopened : SinkView → SinkView → Answer → Type 0
 Unopened old new (Ok reported) = ⊥
-Unopened old new (Err CannotOpen) = new ≡ old
+Unopened old new (Err (CannotOpen why)) = (why ≡ NotFound) × (new ≡ old)
 Unopened old new (Err ReadFailed) = ⊥
 Unopened old new (Err OutOfMemory) = ⊥
 Unopened old new (Err WriteFailed) = ⊥
@@ -132,7 +133,7 @@ pub record Fails {P : Type 0} (file : Bytes) (fault : FileFault) (old new : Stat
 
 -- what came of a path, or of a list that can't be read on
 abbrev pub ChecksItem : {P : Type 0} → Openings P → Asked → Item → State P → State P → Answer → Type 0
-ChecksItem o a (Path file) old new answer = Either (is_path file) (ChecksPath o a file old new answer) (Fails file CannotOpen old new answer)
+ChecksItem o a (Path file) old new answer = Either (is_path file) (ChecksPath o a file old new answer) (Fails file (CannotOpen Other) old new answer)
 ChecksItem o a Unread old new answer = Fails (codes "-") ReadFailed old new answer
 
 -- ---- the items of a run, in turn
@@ -140,7 +141,7 @@ ChecksItem o a Unread old new answer = Fails (codes "-") ReadFailed old new answ
 -- a failed allocation and a failed standard output end the run
 abbrev pub ends_run : Answer → Bool
 ends_run (Ok reported) = false
-ends_run (Err CannotOpen) = false
+ends_run (Err (CannotOpen why)) = false
 ends_run (Err ReadFailed) = false
 ends_run (Err OutOfMemory) = true
 ends_run (Err WriteFailed) = true

@@ -14,7 +14,7 @@ use crate::fault_text::put_file_fault;
 use crate::options::CheckOptions;
 use crate::path_list::path_of;
 use check_lines::{gravest, put_lines};
-use devices::{Opener, Sink, Source, WriteFailed};
+use devices::{OpenFailed, Opener, Sink, Source, WriteFailed};
 use nc_report::{Report, Severity, check};
 use std::alloc::Global;
 
@@ -39,14 +39,14 @@ pub(crate) fn check_item<P: Opener, O: Sink, E: Sink>(
     match path_of(file) {
         Some(path) => check_and_tell(opener, alloc, path, options, out, err),
         None => {
-            let fault = FileFault::CannotOpen;
+            let fault = FileFault::CannotOpen(OpenFailed::Other);
             let _ = put_file_fault(err, file, fault);
             Err(fault)
         }
     }
 }
 
-/// Returns what [`check_file`] does. If that is an error, also writes its line to `err`, such as `nccheck: a.nc: cannot open`, and passes
+/// Returns what [`check_file`] does. If that is an error, also writes its line to `err`, such as `nccheck: a.nc: read failed`, and passes
 /// over a failure of `err`.
 #[tactic(auto, using(crate::proofs::InTurn::is_told))]
 fn check_and_tell<P: Opener, O: Sink, E: Sink>(
@@ -86,7 +86,7 @@ fn is_fatal(fault: FileFault) -> bool
     ensures { result ≡ ends_run (Err fault) }
 {
     match fault {
-        FileFault::CannotOpen => false,
+        FileFault::CannotOpen(_) => false,
         FileFault::ReadFailed => false,
         FileFault::OutOfMemory => true,
         FileFault::WriteFailed => true,

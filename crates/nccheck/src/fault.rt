@@ -10,8 +10,8 @@ use nc_fields::ListFault;
 /// Why a file could not be checked, or its lines not written.
 #[derive(Clone, Copy)]
 pub enum FileFault {
-    /// The path can't be opened.
-    CannotOpen,
+    /// The path can't be opened: why, if the system tells it.
+    CannotOpen(OpenFailed),
     /// The file could not be read.
     ReadFailed,
     /// An allocation failed.
@@ -21,11 +21,11 @@ pub enum FileFault {
 }
 
 impl From<OpenFailed> for FileFault {
-    ghost from_gives = { λ _ e. e ≡ CannotOpen };
+    ghost from_gives = { λ why e. e ≡ CannotOpen why };
 
     /// Turns a file that can't be opened into [`FileFault::CannotOpen`], for the `?` after the opening.
-    fn from(_failure: OpenFailed) -> FileFault {
-        FileFault::CannotOpen
+    fn from(why: OpenFailed) -> FileFault {
+        FileFault::CannotOpen(why)
     }
 }
 

@@ -2,12 +2,12 @@
 
 ghost use Rattle.std.specs.Prelude.{◌≡◌};
 ghost use Rattle.devices.specs.code.SinkWrites.{Wrote};
-ghost use Rattle.nccheck.specs.Faults.{fault_words, file_line, flush_line, opt_fault_line, usage_line};
+ghost use Rattle.nccheck.specs.Faults.{fault_words, file_line, flush_line, open_words, opt_fault_line, usage_line};
 
 use crate::fault::FileFault;
 use check_lines::put_file_path;
 use cli_base::OptFault;
-use devices::{Sink, WriteFailed, put};
+use devices::{OpenFailed, Sink, WriteFailed, put};
 
 /// Writes the line that says why a file could not be checked: `nccheck: FILE: MESSAGE`. FILE is `file`, as [`put_file_path`] shows it.
 ///
@@ -29,16 +29,29 @@ pub(crate) fn put_file_fault<W: Sink>(
     put(sink, b"\n")
 }
 
-/// Returns the words for a fault of a file, such as `cannot open`.
+/// Returns the words for a fault of a file, such as `read failed`.
 #[tactic(auto, unfolding(crate::specs::Faults::fault_words))]
 fn fault_words(fault: FileFault) -> &'static str
     ensures { result.now ≡ fault_words fault }
 {
     match fault {
-        FileFault::CannotOpen => "cannot open",
+        FileFault::CannotOpen(why) => open_words(why),
         FileFault::ReadFailed => "read failed",
         FileFault::OutOfMemory => "out of memory",
         FileFault::WriteFailed => "write failed",
+    }
+}
+
+/// Returns the words for a path that can't be opened, such as `cannot open: no such file`.
+#[tactic(auto, unfolding(crate::specs::Faults::open_words))]
+fn open_words(why: OpenFailed) -> &'static str
+    ensures { result.now ≡ open_words why }
+{
+    match why {
+        OpenFailed::NotFound => "cannot open: no such file",
+        OpenFailed::PermissionDenied => "cannot open: permission denied",
+        OpenFailed::NotRegular => "cannot open: not a regular file",
+        OpenFailed::Other => "cannot open",
     }
 }
 

@@ -50,11 +50,16 @@ fn expect_bytes<S: Source>(rt: &impl Abort, source: &mut S, file: &[u8]) {
     }
 }
 
-/// Fails unless nothing opens at the path.
-fn expect_no_file<R: Files<File = File> + Abort>(rt: &R, path: &str) {
-    let opened = FileSource::open(rt, path);
-    assert!(rt; matches!(opened, Err(OpenFailed)), "{path}");
-    assert!(rt; DirectFiles::new(rt).open(path).is_err(), "{path}");
+/// Fails unless nothing opens at the path, for this reason.
+fn expect_no_file<R: Files<File = File> + Abort>(rt: &R, path: &str, why: OpenFailed) {
+    assert!(rt;
+        matches!(FileSource::open(rt, path), Err(told) if told == why),
+        "{path}"
+    );
+    assert!(rt;
+        matches!(DirectFiles::new(rt).open(path), Err(told) if told == why),
+        "{path}"
+    );
 }
 
 #[test]
@@ -70,9 +75,9 @@ fn reads_of_a_file_give_its_bytes(rt: HostRuntime) -> Result<(), Fail> {
     expect_bytes(&rt, &mut ahead, bytes.as_slice());
     expect_bytes(&rt, &mut direct, bytes.as_slice());
     files.close(direct);
-    for path in [path, "no_such_file.nc", "."] {
-        expect_no_file(&rt, path);
-    }
+    expect_no_file(&rt, path, OpenFailed::NotFound);
+    expect_no_file(&rt, "no_such_file.nc", OpenFailed::NotFound);
+    expect_no_file(&rt, ".", OpenFailed::NotRegular);
     Ok(())
 }
 

@@ -83,7 +83,7 @@ fn errors_have_the_words_of_their_lines(rt: HostRuntime) {
     assert!(rt; says(alloc, SinkFailed, "write failed"));
     assert!(rt; says(alloc, WriteFailed, "write failed"));
     assert!(rt; says(alloc, CloseFailed, "write failed"));
-    assert!(rt; says(alloc, OpenFailed, "cannot open"));
+    assert!(rt; says(alloc, OpenFailed::NotFound, "cannot open"));
     assert!(rt; says(alloc, CreateFailed, "cannot open"));
     assert!(rt; says(alloc, OptFault::OutOfMemory, "out of memory"));
     assert!(rt; says(alloc, OptFault::Usage, "bad command line"));

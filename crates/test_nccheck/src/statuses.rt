@@ -48,7 +48,7 @@ const RUNS: &str = r#"
 
 2 nccheck none names
 >names:84: violation: duplicate-name: var[1] "x" name: found the name of number 0
-!nccheck: none: cannot open
+!nccheck: none: cannot open: no such file
 
 1 nccheck names\
 >names\\:84: violation: duplicate-name: var[1] "x" name: found the name of number 0
@@ -56,7 +56,7 @@ const RUNS: &str = r#"
 2 nccheck -s clean names none records
 >names:84: violation: duplicate-name: var[1] "x" name: found the name of number 0
 >3 checked: 0 with errors, 1 with violations, 0 with notes, 2 with nothing to report; 1 not checked
-!nccheck: none: cannot open
+!nccheck: none: cannot open: no such file
 
 1 nccheck -qs -l note records text records
 >3 checked: 1 with errors, 0 with violations, 2 with notes, 0 with nothing to report; 0 not checked
@@ -77,8 +77,8 @@ const RUNS: &str = r#"
 >nccheck 0.3.0
 
 2 nccheck -- -V -h
-!nccheck: -V: cannot open
-!nccheck: -h: cannot open
+!nccheck: -V: cannot open: no such file
+!nccheck: -h: cannot open: no such file
 "#;
 
 /// Words that are answered with the usage, a run a line.
@@ -100,7 +100,7 @@ const OTHERS: &[Run<'_>] = &[
         ROOM,
         2,
         b"",
-        b"nccheck: a\\t\\n\\001\\177\\\\\"'\xc3\xa9: cannot open\n",
+        b"nccheck: a\\t\\n\\001\\177\\\\\"'\xc3\xa9: cannot open: no such file\n",
     ),
     // a run ends if standard output fails, and the files aren't counted
     (
@@ -175,7 +175,7 @@ const LISTS: &[(&[u8], bool, Run<'_>)] = &[
             2,
             b"names:84: violation: duplicate-name: var[1] \"x\" name: found the name of number 0\n\
             4 checked: 0 with errors, 1 with violations, 0 with notes, 3 with nothing to report; 1 not checked\n",
-            b"nccheck: none: cannot open\n",
+            b"nccheck: none: cannot open: no such file\n",
         ),
     ),
     // paths that can't be opened
@@ -187,7 +187,7 @@ const LISTS: &[(&[u8], bool, Run<'_>)] = &[
             ROOM,
             2,
             LINE,
-            b"nccheck: caf\\351.nc: cannot open\nnccheck: : cannot open\n",
+            b"nccheck: caf\\351.nc: cannot open\nnccheck: : cannot open: no such file\n",
         ),
     ),
     // a list that can't be read on

@@ -5,7 +5,7 @@ use Rattle.devices.specs.Sources.{SourceView}
 use Rattle.devices.specs.Readers.{view_of}
 use Rattle.devices.specs.Failures.{one_more}
 use Rattle.devices.specs.Openers.{OpenerView}
-use Rattle.devices.specs.declared.reader.CountedRead.{CountedRead}
+use Rattle.devices.specs.declared.{fault.OpenFailed.OpenFailed, fault.OpenFailed.TheVariants.NotFound, reader.CountedRead.CountedRead}
 
 -- it was asked to open no path yet
 abbrev pub unopened : OpenerView
@@ -26,17 +26,17 @@ pub record HasBack (old new : OpenerView) (failures : ℕ) : Type 0 where
 abbrev pub NamesAsBefore : (List ℕ → Option (List ℕ)) → (List ℕ → Option (List ℕ)) → Type 0
 NamesAsBefore old new = (path : List ℕ) → new path ≡ old path
 
--- a path that names these bytes is opened as a device that `Has` them, and one that names none is a failure
-abbrev pub Opened : {Device E : Type 0} → (Device → List ℕ → Type 0) → Option (List ℕ) → Result Device E → Type 0
+-- a path that names these bytes is opened as a device that `Has` them, and one that names none isn't found
+abbrev pub Opened : {Device : Type 0} → (Device → List ℕ → Type 0) → Option (List ℕ) → Result Device OpenFailed → Type 0
 Opened Has (Some bytes) (Ok device) = Has device bytes
-Opened Has None (Err failure) = Unit {0}
+Opened Has None (Err failure) = failure ≡ NotFound
 Opened Has (Some bytes) (Err failure) = ⊥
 Opened Has None (Ok device) = ⊥
 
 -- a path that names these bytes is opened as a source of them, if sources are transparent
-abbrev pub OpensSource : {S E : Type 0} → Bool → (S → SourceView) → Option (List ℕ) → Result S E → Type 0
+abbrev pub OpensSource : {S : Type 0} → Bool → (S → SourceView) → Option (List ℕ) → Result S OpenFailed → Type 0
 OpensSource is_transparent view bytes result = OnTrue is_transparent (Opened (λ source file. (view source).bytes ≡ file) bytes result)
 
 -- a path that names these bytes is opened as a text of them, if texts are transparent
-abbrev pub OpensText : {R E : Type 0} → Bool → (R → Option (List ℕ)) → Option (List ℕ) → Result (CountedRead R) E → Type 0
+abbrev pub OpensText : {R : Type 0} → Bool → (R → Option (List ℕ)) → Option (List ℕ) → Result (CountedRead R) OpenFailed → Type 0
 OpensText is_transparent remaining bytes result = OnTrue is_transparent (Opened (λ text all. (view_of remaining text).remaining ≡ Some all) bytes result)

@@ -46,11 +46,11 @@ impl<'a> Opener for MemFiles<'a> {
 
     ghost view = { view_of };
 
-    /// Opens the first file at the path as a source of its bytes, which aren't copied. Errs if there is none. The attempt is counted in any
-    /// case.
+    /// Opens the first file at the path as a source of its bytes, which aren't copied. Errs with `NotFound` if there is none. The attempt is
+    /// counted in any case.
     fn open(&mut self, path: &str) -> Result<MemSource<'a>, OpenFailed> {
         self.opens = self.opens.saturating_add(1);
-        let bytes = bytes_at(self.files, path).ok_or(OpenFailed)?;
+        let bytes = bytes_at(self.files, path).ok_or(OpenFailed::NotFound)?;
         Ok(MemSource::new(bytes))
     }
 
@@ -69,11 +69,11 @@ impl<'a> TextOpener for MemFiles<'a> {
 
     ghost view = { view_of };
 
-    /// Opens the first file at the path as a text, and returns a reader of its bytes, which aren't copied. Errs if there is none. The
-    /// attempt is counted in any case.
+    /// Opens the first file at the path as a text, and returns a reader of its bytes, which aren't copied. Errs with `NotFound` if there is
+    /// none. The attempt is counted in any case.
     fn open_text(&mut self, path: &str) -> Result<CountedRead<&'a [u8]>, OpenFailed> {
         self.opens = self.opens.saturating_add(1);
-        let bytes = bytes_at(self.files, path).ok_or(OpenFailed)?;
+        let bytes = bytes_at(self.files, path).ok_or(OpenFailed::NotFound)?;
         Ok(CountedRead::new(bytes))
     }
 
