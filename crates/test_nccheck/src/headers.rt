@@ -1,8 +1,8 @@
-//! The fields that are listed of headers that are right.
+//! The fields that are listed of headers that are right, and of such headers whose source ends early or fails.
 
 use crate::files::{EMPTY_LISTS, ODD_HEADER, STREAMED_HEADER};
 use devices::{DripSource, FailWhen};
-use nc_base::{NumRecs, Version};
+use nc_base::{FormatFault, NumRecs, Version};
 use nc_fields::FieldName::{
     AttsCount, AttsTag, Begin, Count, DimId, DimsCount, DimsTag, GlobalAttsCount, GlobalAttsTag,
     Length, Magic, Name, NameLength, NamePadding, NumRecs as Records, Padding, Rank, Type, Values,
@@ -13,6 +13,7 @@ use nc_fields::{Content, Entry, FieldName, ListFault, Listing, Owner, Place, lis
 use nc_report::check;
 use std::process::Abort;
 use std::test::Fail;
+use test_files::cut;
 
 /// What the content of a field has to be, as [`Content`].
 #[derive(Clone, Copy, PartialEq, Eq)]
@@ -251,6 +252,54 @@ fn headers_have_their_fields(rt: HostRuntime) -> Result<(), Fail> {
         match list_fields(rt.alloc(), &mut source, &mut [0xff; 16]) {
             Ok(listing) => assert!(rt; is_listing_of(&listing, row), "{:?}", row.version),
             Err(fault) => assert!(rt; false, "{fault}"),
+        }
+    }
+    Ok(())
+}
+
+/// Returns true if the field ends at the offset `at` or before.
+fn ends_by(field: &Field, at: u64) -> bool {
+    let (_, _, offset, size, _) = *field;
+    size.saturating_add(offset as u128) <= at as u128
+}
+
+/// Returns true if the entry is this field, in a file that ends at the offset `at`: whole, or without its content and with the fault.
+fn is_entry_up_to(entry: &Entry, field: &Field, at: u64) -> bool {
+    if ends_by(field, at) {
+        return is_entry(entry, field);
+    }
+    let (owner, name, offset, size, _) = *field;
+    entry.place == (Place { owner, name })
+        && entry.offset == offset
+        && entry.size == size
+        && matches!(&entry.content, Content::Cut)
+        && entry.fault == Some(FormatFault::HeaderTruncated)
+}
+
+/// Returns true if the listing is that of the header, in a file that ends at the offset `at`, before the header does: the whole fields, and
+/// the one that is cut. The file's length is still the one that the source gave.
+fn is_listing_up_to(listing: &Listing, row: &Row, at: u64) -> bool {
+    let entries = listing.entries.as_slice();
+    let whole = row.fields.iter().filter(|it| ends_by(*it, at)).count();
+    matches!(&listing.header, Err(FormatFault::HeaderTruncated))
+        && listing.file_len == row.bytes.len() as u64
+        && entries.len() == whole.wrapping_add(1)
+        && entries
+            .iter()
+            .zip(row.fields.iter())
+            .all(|(entry, field)| is_entry_up_to(entry, field, at))
+}
+
+/// The source of a header ends at each offset in turn, though it promises all bytes: what doesn't come is taken for no zeros.
+#[test]
+fn headers_that_end_early(rt: HostRuntime) -> Result<(), Fail> {
+    for row in HEADERS {
+        for at in 0..row.end {
+            let mut source = cut(row.bytes, at as usize);
+            match list_fields(rt.alloc(), &mut source, &mut [0; 16]) {
+                Ok(listing) => assert!(rt; is_listing_up_to(&listing, row, at), "{at}"),
+                Err(fault) => assert!(rt; false, "{fault}"),
+            }
         }
     }
     Ok(())
