@@ -23,7 +23,7 @@ refuse() {
     : >"$work/allocations"
     REFUSED=$1 ALLOCATIONS=$work/allocations LD_PRELOAD=$work/refuse.so run "${@:2}"
     refused=$1
-    read -r allocations bytes <"$work/allocations"
+    read -r allocations bytes _ <"$work/allocations"
     read -r status <"$work/got/status"
     IFS= read -r -d '' out <"$work/got/stdout"
     IFS= read -r -d '' err <"$work/got/stderr"

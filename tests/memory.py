@@ -4,8 +4,9 @@
     tests/memory.py
 
 The bytes are those of all allocations of a run together (refuse.c counts them), also of those that are given back as a list grows. They
-are the same on each run, whatever else the machine does, so each bound is close above what was measured, which is beside it. The last
-line is 'N passed, M failed', of texts, names, and fields with a count.
+are the same on each run, whatever else the machine does, so each bound is close above what was measured, which is beside it. Of a check
+of many files it is bounded how many more bytes it holds at a time than a check of the largest file alone. The last line is
+'N passed, M failed', of texts, names, fields with a count, and many files.
 """
 
 import os
@@ -29,14 +30,21 @@ class Broken(Exception):
     """Something that has to hold doesn't."""
 
 
-def asked(statuses, *words):
-    """How many bytes the allocations of a run ask for, which ends with one of these statuses, and not for want of memory."""
+def allocated(statuses, *words, given=b""):
+    """How many bytes the allocations of a run ask for, and the most that it holds at a time. The run is given these bytes, ends with one of
+    these statuses, and not for want of memory."""
     Path("allocations").unlink(missing_ok=True)
     counted = {**os.environ, "LD_PRELOAD": "./refuse.so", "ALLOCATIONS": "allocations"}
-    ran = subprocess.run(words, env=counted, stdout=subprocess.DEVNULL, stderr=subprocess.PIPE)
+    ran = subprocess.run(words, env=counted, input=given, stdout=subprocess.DEVNULL, stderr=subprocess.PIPE)
     if ran.returncode not in statuses or b"memory" in ran.stderr:
         raise Broken(f"status {ran.returncode}: {ran.stderr[-200:]}")
-    return int(Path("allocations").read_text().split()[1])
+    _, sum_of_all, at_a_time = map(int, Path("allocations").read_text().split())
+    return sum_of_all, at_a_time
+
+
+def asked(statuses, *words):
+    """How many bytes the allocations of a run ask for."""
+    return allocated(statuses, *words)[0]
 
 
 def generated(text):
@@ -140,6 +148,8 @@ def fields(version):
     }
 
 
+# how many more bytes a check of many files may hold at a time than one of the largest of them (16 were measured, beside 68,137,640)
+BESIDE_OTHERS = 1_000
 # the fields after whose count zeros can't go on
 LISTS = {"dimensions", "attributes", "variables", "attributes of a variable"}
 # the most bytes that a dump may ask for, whatever the count is (79,694 were measured, 69,632 of them for buffers)
@@ -179,6 +189,19 @@ def most_of_lengths():
     return most
 
 
+def held(paths):
+    """The most bytes that a check of a list of files holds at a time, in which nothing is found."""
+    return allocated({0}, NCCHECK, "-0", given="\0".join(paths).encode())[1]
+
+
+def more_for_many_files():
+    """How many more bytes a check of 1,000 files holds at a time than one of the largest of them alone, whose header has a megabyte."""
+    for name, count in ("small.nc", 3), ("large.nc", 44_000):
+        generated(notes(count))
+        os.rename("made.nc", name)
+    return held(["small.nc"] * 500 + ["large.nc"] + ["small.nc"] * 499) - held(["large.nc"])
+
+
 def tests():
     """Each test: its name, what finds out how much is asked for, and the most that may be."""
     for name, (of, text, most) in TEXTS.items():
@@ -187,6 +210,7 @@ def tests():
         for what in fields(version):
             yield f"{what}, version {version}", lambda version=version, what=what: most_of_field(version, what), HOSTILE
     yield "lengths of dimensions in a text", most_of_lengths, LENGTHS
+    yield "more for many files", more_for_many_files, BESIDE_OTHERS
 
 
 def main():

@@ -126,11 +126,14 @@ for n in {1..1000}; do cp cut.nc "many/$n.nc"; done
 run bash -c 'ulimit -v 20000 && "$0" -q many/*.nc' "$nccheck"
 verdict many_files 1
 
-# A line doesn't grow with a name: 1,000 attributes of a variable whose name has 10,000 letters, with a line for each.
-name=$(printf 'a%.0s' {1..10000}) other=$(printf 'b%.0s' {1..250})
-{ printf 'netcdf t {\nvariables: int %s ;\n' "$name" && printf ":${other}_%08d = 1 ;\n" {1..1000} | sed "s/^/$name/" && echo '}'; } >long.cdl
-"$ncgen" -o long.nc long.cdl
-run bash -c '"$0" long.nc >long.txt; status=$?; [ "$(wc -l <long.txt)" = 1001 ] && [ "$(wc -c <long.txt)" -lt 200000 ] && exit $status' "$nccheck"
+# A line doesn't grow with a name: 3,000 attributes of a variable whose name has 50,000 letters, with a line for each, of 200 bytes at most.
+{
+    printf 'CDF\1' && zeros 20 && printf '\0\0\0\13\0\0\0\1\0\0\303\120' && letters 50000 a
+    zeros 4 && printf '\0\0\0\14\0\0\13\270'
+    printf '\0\0\1\4%0260d\0\0\0\4\0\0\0\1\0\0\0\0' {1..3000}
+    printf '\0\0\0\4\0\0\0\4\0\15\145\354\0\0\0\0'
+} >long.nc
+run bash -c '"$0" long.nc >long.txt; status=$?; [ "$(wc -l <long.txt)" = 3001 ] && [ "$(wc -c <long.txt)" -lt 600000 ] && exit $status' "$nccheck"
 verdict lines_on_attributes_of_a_long_name 1
 
 # A list of ten thousand files too, which is checked as it is read: the first file has its line before the list has ended.

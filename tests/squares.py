@@ -4,8 +4,9 @@
     tests/squares.py
 
 Each text is generated, and each file that is made so is dumped, with n parts and with 4n. Headers with many parts, most of them with as
-many findings, are checked. The processor time for 4n has to keep a bound, far above what it takes, and to be less than 8 times that for n, or than 8 times FLOOR. A time that grows in step with the parts
-is 4 times as long, and one that grows with their square 16 times. The last line is 'N passed, M failed'.
+many findings, are checked. The processor time for 4n has to keep a bound, far above what it takes, and to be less than 8 times that for n,
+or than 8 times FLOOR. A time that grows in step with the parts is 4 times as long, and one that grows with their square 16 times. The last
+line is 'N passed, M failed'.
 """
 
 import math
@@ -228,6 +229,11 @@ def named(text):
     return number(len(text)) + padded(text)
 
 
+def oddly_named(text):
+    """A name with padding that isn't zeros, if it has any."""
+    return named(text)[: 4 + len(text)] + b"x" * (-len(text) % 4)
+
+
 def list_of(tag, elements):
     return number(tag if elements else 0) + number(len(elements)) + b"".join(elements)
 
@@ -246,8 +252,8 @@ def variable(text, dim, begin, atts=()):
     return named(text) + number(1) + number(dim) + list_of(12, atts) + number(1) + number(4) + number(begin)
 
 
-def header(dims, variables=()):
-    return b"CDF\1" + number(0) + list_of(10, dims) + list_of(12, ()) + list_of(11, variables)
+def header(dims, variables=(), records=0):
+    return b"CDF\1" + number(records) + list_of(10, dims) + list_of(12, ()) + list_of(11, variables)
 
 
 def one_name(n):
@@ -256,6 +262,43 @@ def one_name(n):
 
 def fill_values_of_a_variable(n):
     return header([dimension(b"x", 4)], [variable(b"v", 0, 0, [attribute(b"_FillValue", 4)] * n)])
+
+
+# attributes at which something is found, each by a number: a name with a slash, padding that isn't zeros, and no values; a name that isn't
+# in form NFC, text with a NUL at its end, and padding again; a long name; a name with NULs at its end; a name that others have; and a fill
+# value of type short
+ODD_ATTRIBUTES = [
+    lambda at: oddly_named(b"%d/" % at) + number(4) + number(0),
+    lambda at: oddly_named("e\u0301{}".format(at).encode()) + number(2) + number(2) + b"a\0xx",
+    lambda at: named(b"%0257d" % at) + number(1) + number(1) + b"\0xxx",
+    lambda at: named(b"%d\0\0" % at) + number(2) + number(1) + b"\0\0\0\0",
+    lambda at: named(b"a") + number(2) + number(0),
+    lambda at: named(b"_FillValue") + number(3) + number(2) + b"\0\0\0\0",
+]
+
+
+def odd_attributes(n):
+    """A variable with n odd attributes."""
+    atts = [ODD_ATTRIBUTES[at % len(ODD_ATTRIBUTES)](at) for at in range(n)]
+    return header([dimension(b"x", 4)], [variable(b"v", 0, 0, atts)])
+
+
+def odd_variables(n):
+    """n dimensions of 2^31, and n variables of type double with long names and wrong sizes, which have in turn each odd attribute, a fill
+    value too many, and an empty list of attributes with its own tag."""
+    all_odd = [made(0) for made in ODD_ATTRIBUTES]
+    two_fill_values = [named(b"_FillValue") + number(6) + number(2) + bytes(16)]
+    lists = [list_of(12, all_odd), list_of(12, two_fill_values), number(12) + number(0)]
+    start, end = number(1) + number(0), number(6) + number(4) + number(0)
+    variables = [named(b"%0257d" % at) + start + lists[at % len(lists)] + end for at in range(n)]
+    return header([dimension(b"x", 4)] + [dimension(b"%d " % at, 1 << 31) for at in range(n)], variables)
+
+
+def cut_records(n):
+    """A file of n record variables and two records that ends in the midst of the first."""
+    dims = [dimension(b"t", 0)]
+    end = len(header(dims, [variable(b"%08d" % at, 0, 0) for at in range(n)]))
+    return header(dims, [variable(b"%08d" % at, 0, end + 4 * at) for at in range(n)], records=2) + bytes(2 * n)
 
 
 def variables_at(begin_of, length, first_is_long=False):
@@ -278,6 +321,9 @@ CHECKED = {
     "variables in the other order": (variables_at(lambda end, i, n: end + 4 * (n - i), 4), 10_000, 3),
     "variables at one place": (variables_at(lambda end, i, n: end, 4), 10_000, 3),
     "record variables in the other order": (variables_at(lambda end, i, n: end + 4 * (n - i), 0), 10_000, 3),
+    "record variables in a cut file": (cut_records, 10_000, 3),
+    "odd attributes of one variable": (odd_attributes, 10_000, 3),
+    "odd variables and dimensions": (odd_variables, 4_000, 3),
 }
 # the words of a dump, if they are more than the path
 WORDS = {named_variables: all_names}
