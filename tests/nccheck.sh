@@ -98,6 +98,11 @@ done
 stderr 'usage: nccheck [-q] [-s] [-0] [-l level] [-i kinds] [file ...]\n'
 run "$nccheck" cut.nc $'caf\351.nc'
 verdict word_that_is_not_utf_8 2
+for word in -V -h; do
+    stderr 'usage: nccheck [-q] [-s] [-0] [-l level] [-i kinds] [file ...]\n'
+    run "$nccheck" "$word" $'caf\351.nc'
+    verdict "word_that_is_not_utf_8_after$word" 2
+done
 stderr 'nccheck: write failed\n'
 run bash -c '"$0" -V >&-' "$nccheck"
 verdict version_to_a_closed_standard_output 2

@@ -211,6 +211,7 @@ stdout './f.nc\n'
 recipe '! -exec'
 verdict files_with_an_error 0
 head -c 500 "$samples/stations.nc" >g.nc
+mkdir dir.nc
 echo './g.nc:1: error: of yesterday' | cat - <(printf "$found") | sort >yesterday
 stdout "${found//f.nc/g.nc}"
 recipe 'comm -13'
@@ -218,6 +219,22 @@ verdict new_since_yesterday 0
 run cat yesterday
 stdout "$found${found//f.nc/g.nc}"
 verdict what_is_yesterday_tomorrow 0
+run sed 's/cannot open.*/cannot open/' trouble
+stdout 'nccheck: ./dir.nc: cannot open\n'
+verdict what_could_not_be_checked 0
+# A file that cannot be opened for a night is in `trouble`, and its line is new when it can be opened again.
+mv g.nc away && mkdir g.nc
+recipe 'comm -13'
+verdict nothing_new_of_what_could_not_be_checked 0
+run grep -c 'nccheck: ./g.nc: cannot open' trouble
+stdout '1\n'
+verdict trouble_names_what_could_not_be_checked 0
+rmdir g.nc dir.nc && mv away g.nc
+stdout "${found//f.nc/g.nc}"
+recipe 'comm -13'
+verdict new_again_the_night_after 0
+run cat trouble
+verdict no_trouble 0
 cd ..
 
 # Each example that begins with a prompt or as a rule of make has been run.
