@@ -78,6 +78,42 @@ long.nc:1169: violation: padding: var[0] \"$(letters 64 n)\"... att[0] \"axyz1\"
 run "$nccheck" long.nc
 verdict long_name 1
 
+# one_int NAME: makes name.nc, a file of one int of this name, without its value.
+one_int() {
+    local LC_ALL=C length begin number
+    length=${#1} && begin=$((60 + (length + 3) / 4 * 4))
+    printf -v number '\\x%02x' $((length >> 8)) $((length & 255)) $((begin >> 8)) $((begin & 255))
+    {
+        printf 'CDF\1' && zeros 20 && printf '\0\0\0\13\0\0\0\1\0\0' && printf '%b' "${number::8}"
+        printf '%s' "$1" && zeros $(((4 - length % 4) % 4 + 15)) && printf '\4\0\0\0\4\0\0' && printf '%b' "${number:8}"
+    } >name.nc
+}
+# name TEST NAME SHOWN LINE..: of a file of one int of this name, the line on its value, which is missing, shows the name so; before it come
+# these lines.
+name() {
+    local size line
+    one_int "$2"
+    size=$(wc -c <name.nc)
+    for line in "${@:4}" "$size: error: missing: var[0] $3: found $size bytes, expected at least $((size + 4))"; do
+        printf 'name.nc:%s\n' "$line" >>"$work/want/stdout"
+    done
+    run "$nccheck" -l note name.nc
+    verdict "$1" 1
+}
+long='32: violation: long-name: var[0] name length: found 257, expected at most 256'
+printf -v accents '\303\251%.0s' {1..128}
+printf -v octal '\\303\\251%.0s' {1..32}
+name name_of_256_bytes "$(letters 256 n)" "\"$(letters 256 n)\""
+name name_of_257_bytes "$(letters 257 n)" "\"$(letters 64 n)\"..." "$long"
+name name_of_256_bytes_of_utf_8 "$accents" "\"$accents\""
+name name_of_257_bytes_of_utf_8 "${accents}n" "\"$octal\"..." "$long"
+name name_of_257_bytes_that_is_cut_within_a_character "n$accents" "\"n${octal::252}\"..." "$long"
+printf -v other '\351%.0s' {1..257}
+printf -v octal '\\351%.0s' {1..256}
+name name_of_256_bytes_that_is_not_utf_8 "${other::256}" "\"$octal\"" "36: violation: name-characters: var[0] \"$octal\" name"
+name name_of_257_bytes_that_is_not_utf_8 "$other" "\"${octal::256}\"..." "$long" \
+    "36: violation: name-characters: var[0] \"${octal::256}\"... name"
+
 stdout "nccheck $(cat "$top/VERSION")\n"
 run "$nccheck" -q none.nc -V -h
 verdict version_is_that_of_the_file_VERSION 0
@@ -87,6 +123,11 @@ verdict help_begins_with_the_usage 0
 stderr 'nccheck: -q: cannot open: no such file\n'
 run "$nccheck" -- -q
 verdict file_that_begins_with_a_dash 2
+# A lone dash is a path; more may follow the words that it cannot be opened.
+stderr 'nccheck: -: cannot open\n'
+run "$nccheck" -
+sed -i '1s/cannot open.*/cannot open/' "$work/got/stderr"
+verdict dash_alone 2
 run "$nccheck" -i missing,gap cut.nc
 verdict ignored_kinds 0
 for words in '' '-x cut.nc' '-i wrong cut.nc' '-0 -0' '-l bad cut.nc' '-l' '-l note -l error cut.nc'; do
