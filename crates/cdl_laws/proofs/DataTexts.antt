@@ -15,45 +15,10 @@ pub record Gives (v : Version) (dims : List Dim) (look : Look) (var : Var) (valu
   pub full : filled (length values) (fill_value (trimmed_var var)) listed ≡ values
   pub exact : is_record_var dims var ≡ true → listed ≡ values
 
--- the variable has this name, takes values so, and takes so many
-pub record IsRoomFor (dims : List Dim) (look : Look) (var : Var) (takes : states.Takes) (count : ℕ) : Type 0 where
-  pub name : look.name ≡ var.name
-  pub valid : IsName look.name
-  pub taken : takes_of dims (trimmed_var var) ≡ takes
-  pub wide : IsWithin (room_of dims var) count
-
-pub gives_numbers : (v : Version) (dims : List Dim) (look : Look) (var : Var) (ty : NcType) (x : ℤ) (xs : List ℤ) → IsRoomFor dims look var (Numbers ty look.fill) (length (x ∷ xs)) → is_char look.ty ≡ false →
-    (look.in_rows ≡ false → length (x ∷ xs) ≤ look.row) → AreSmall (x ∷ xs) → Each (λ y. has_number ty y ≡ true) (x ∷ xs) → Gives v dims look var (x ∷ xs)
-gives_numbers v dims look var ty x xs room other small fit range = record {
-  said = map (value_said look) (x ∷ xs);
-  says = subst (λ n. IsStatement v Values (variable_text look (x ∷ xs)) (Listed n (map (value_said look) (x ∷ xs)))) room.name (numbers_say v look x xs room.valid other small fit);
-  listed = x ∷ xs;
-  added = rw (room.taken) (numbers_listed look ty (room_of dims var) [] (x ∷ xs) room.wide range);
-  full = filled_whole (length (x ∷ xs)) (fill_value (trimmed_var var)) (x ∷ xs) refl;
-  exact = λ e. refl;
-}
-
-pub gives_table : (v : Version) (dims : List Dim) (look : Look) (var : Var) (r : List ℤ) (rows : List (List ℤ)) → IsRoomFor dims look var (Rows look.row look.fill) (length (flat (r ∷ rows))) → is_char look.ty ≡ true → look.in_rows ≡ true →
-    (look.trimmed ≡ true → look.fill ≡ pos 0) → 0 < look.row → Each (λ (s : List ℤ). (length s ≡ look.row) × Each IsCharacter s) (r ∷ rows) → Gives v dims look var (flat (r ∷ rows))
-gives_table v dims look var r rows room ty h fill some all = record {
-  said = map Characters (map (printed look.trimmed 0) (r ∷ rows));
-  says = subst (λ n. IsStatement v Values (variable_text look (flat (r ∷ rows))) (Listed n (map Characters (map (printed look.trimmed 0) (r ∷ rows))))) room.name (strings_say v look (variable_text look (flat (r ∷ rows))) r rows room.valid (table_closed look r rows room.valid ty h some (each_map (λ (s : List ℤ). (length s ≡ look.row) × Each IsCharacter s) (λ (s : List ℤ). length s ≡ look.row) (r ∷ rows) (λ s p. p.0) all)));
-  listed = flat (r ∷ rows);
-  added = rw (room.taken) (rows_listed look.row look.fill (room_of dims var) look.trimmed [] (r ∷ rows) fill room.wide all);
-  full = filled_whole (length (flat (r ∷ rows))) (fill_value (trimmed_var var)) (flat (r ∷ rows)) refl;
-  exact = λ e. refl;
-}
-
-pub gives_line : (v : Version) (dims : List Dim) (look : Look) (var : Var) (x : ℤ) (xs : List ℤ) → IsRoomFor dims look var Joined (length (x ∷ xs)) → is_char look.ty ≡ true → look.in_rows ≡ false → length (x ∷ xs) ≤ look.row →
-    (look.trimmed ≡ true → fill_value (trimmed_var var) ≡ pos 0) → (is_record_var dims var ≡ true → look.trimmed ≡ false) → Each IsCharacter (x ∷ xs) → Gives v dims look var (x ∷ xs)
-gives_line v dims look var x xs room ty h small fill record_whole all = record {
-  said = Characters (printed look.trimmed 0 (x ∷ xs)) ∷ [];
-  says = subst (λ n. IsStatement v Values (variable_text look (x ∷ xs)) (Listed n (Characters (printed look.trimmed 0 (x ∷ xs)) ∷ []))) room.name (strings_say v look (variable_text look (x ∷ xs)) (x ∷ xs) [] room.valid (line_closed look x xs room.valid ty h small));
-  listed = map pos (printed look.trimmed 0 (x ∷ xs));
-  added = rw (room.taken) (line_listed (room_of dims var) look.trimmed (x ∷ xs) room.wide);
-  full = row_back look.trimmed (length (x ∷ xs)) (fill_value (trimmed_var var)) (x ∷ xs) fill refl all;
-  exact = λ e. ap (λ t. map pos (printed t 0 (x ∷ xs))) (record_whole e) ∙ back_whole (x ∷ xs) all;
-}
+-- a text that lists all values
+pub gives_all : (v : Version) (dims : List Dim) (look : Look) (var : Var) (xs : List ℤ) (said : List Value) → IsStatement v Values (variable_text look xs) (Listed var.name said) → values_listed dims (trimmed_var var) said ≡ Ok xs → Gives v dims look var xs
+gives_all v dims look var xs said says added =
+    record { said = said; says = says; listed = xs; added = added; full = filled_whole (length xs) (fill_value (trimmed_var var)) xs refl; exact = λ e. refl }
 
 -- ---- all variables
 

@@ -1,8 +1,9 @@
 -- The array of a variable is given back by the text of its values.
-use Rattle.cdl_laws.proofs.Prelude.{◌≡◌, ℕ, zero, suc, ◌*◌, ◌<◌, true, false, List, [], ◌∷◌, length, drop, take, map, sym, ◌∙◌, ap, refl, subst, arith, length-take, length-drop, ℤ, pos, ◌&&◌, ◌==◌, not, nat_lt, find, Some, rules, if◌then◌else◌, Option, int_eq, false≢true, Decides-int_eq, take-append-drop, Att, Dim, Header, Var, NcType, Version, fill_value, is_fill_att, value_count, IsArray, IsName, numbers, IsInRange, is_record_var, product, slab_lens, look_of, is_char, row_len, trimmed_att, trimmed_var, filled, array_of, and_left, is_off, is_on, look-type, Each, each_drop, each_map, each_take, slab_rows, has_values, listed_values, and_false, option_map, takes_of, Takes, Numbers, Joined, Rows}
+use Rattle.cdl_laws.proofs.Prelude.{◌≡◌, ℕ, zero, suc, ◌*◌, ◌<◌, true, false, List, [], ◌∷◌, length, drop, take, map, sym, ◌∙◌, ap, refl, subst, arith, length-take, length-drop, ℤ, pos, ◌&&◌, ◌==◌, not, nat_lt, find, Some, rules, if◌then◌else◌, Option, int_eq, false≢true, Decides-int_eq, take-append-drop, Att, Dim, Header, Var, NcType, Version, fill_value, is_fill_att, value_count, IsArray, IsName, numbers, IsInRange, is_record_var, product, slab_lens, look_of, is_char, row_len, trimmed_att, trimmed_var, filled, array_of, and_left, is_off, is_on, look-type, Each, each_drop, each_map, each_take, slab_rows, has_values, listed_values, and_false, option_map, takes_of, Numbers, Joined, Rows, ◌≤◌, room_of, Characters, printed, Values, variable_text, IsStatement, Listed, Ok}
 use Rattle.cdl_laws.proofs.Attributes.{AreNumbersOf, numbers_are, all_fit, all_small}
-use Rattle.cdl_laws.proofs.Readings.{flat, IsCharacter}
-use Rattle.cdl_laws.proofs.DataTexts.{Gives, IsRoomFor, gives_numbers, gives_table, gives_line, given_draft, IsGivenBy}
+use Rattle.cdl_laws.proofs.Readings.{flat, IsCharacter, IsWithin, value_said, numbers_say, numbers_listed, strings_say, line_closed, line_listed, table_closed, rows_listed, back_whole}
+use Rattle.cdl_laws.proofs.Characters as characters
+use Rattle.cdl_laws.proofs.DataTexts.{Gives, gives_all, given_draft, IsGivenBy}
 
 -- ---- the fill value
 
@@ -17,9 +18,8 @@ same_fill var h = grind (arith, found_trimmed var.atts)
 
 -- ---- rooms
 
-room_is : (h : Header) (var : Var) (n width m : ℕ) (takes : Takes) → m ≡ value_count h.dims var n → IsName var.name → takes_of h.dims (trimmed_var var) ≡ takes → IsRoomFor h.dims (look_of h var n width) var takes m
-unfolding look_of
-room_is h var n width m takes is name taken = record { name = refl; valid = name; taken = taken; wide = grind arith }
+room_is : (h : Header) (var : Var) (n m : ℕ) → m ≡ value_count h.dims var n → IsWithin (room_of h.dims var) m
+room_is h var n m is = grind arith
 
 row_all : (h : Header) (var : Var) (n width : ℕ) → (look_of h var n width).in_rows ≡ false → (look_of h var n width).row ≡ value_count h.dims var n
 unfolding look_of
@@ -33,9 +33,11 @@ pub listed_numbers : (v : Version) (h : Header) (var : Var) (n width : ℕ) (xs 
 unfolding look_of takes_of
 listed_numbers v h var n width [] some len range other name = absurd (omega (arith, some))
 listed_numbers v h var n width (x ∷ xs) some len range other name =
-    gives_numbers v h.dims (look_of h var n width) var var.ty x xs (room_is h var n width (length (x ∷ xs)) (Numbers var.ty (fill_value var)) len name (grind (arith, same_fill var other, other))) (ap is_char (look-type h var n width) ∙ other)
-    (λ e. let r = row_all h var n width e in omega (arith, r, len)) (all_small var.ty (x ∷ xs) range)
-    (all_fit var.ty (x ∷ xs) range)
+    let look = look_of h var n width in
+    let taken : takes_of h.dims (trimmed_var var) ≡ Numbers var.ty look.fill = grind (arith, same_fill var other, other) in
+    gives_all v h.dims look var (x ∷ xs) (map (value_said look) (x ∷ xs))
+    (numbers_say v look x xs name (ap is_char (look-type h var n width) ∙ other) (λ e. let r = row_all h var n width e in omega (arith, r, len)) (all_small var.ty (x ∷ xs) range))
+    (rw (taken) (numbers_listed look var.ty (room_of h.dims var) [] (x ∷ xs) (room_is h var n (length (x ∷ xs)) len) (all_fit var.ty (x ∷ xs) range)))
 
 -- ---- characters at rank 0 and 1
 
@@ -50,11 +52,28 @@ line_takes : (h : Header) (var : Var) (n width : ℕ) → is_char var.ty ≡ tru
 unfolding look_of takes_of
 line_takes h var n width char rank = grind (arith, char, rank)
 
+-- a record variable of rank 1 isn't trimmed
+line_whole : (h : Header) (var : Var) (n width : ℕ) → (look_of h var n width).in_rows ≡ false → is_record_var h.dims var ≡ true → (look_of h var n width).trimmed ≡ false
+unfolding look_of
+line_whole h var n width rank is = grind (arith, and_false, false≢true, is_on)
+
 pub listed_line : (v : Version) (h : Header) (var : Var) (n width : ℕ) (xs : List ℤ) →
     0 < length xs → length xs ≡ value_count h.dims var n → Each (IsInRange var.ty) xs → is_char var.ty ≡ true → IsName var.name →
-    fill_value (trimmed_var var) ≡ fill_value var → (look_of h var n width).in_rows ≡ false → (is_record_var h.dims var ≡ true → (look_of h var n width).trimmed ≡ false) → Gives v h.dims (look_of h var n width) var xs
-listed_line v h var n width [] some len range char name fill rank whole = grind (arith, room_is, look-type)
-listed_line v h var n width _ some len range char name fill rank whole = grind (arith, gives_line, room_is, line_takes, look-type, row_all, trimmed_fill, are_characters)
+    fill_value (trimmed_var var) ≡ fill_value var → (look_of h var n width).in_rows ≡ false → Gives v h.dims (look_of h var n width) var xs
+unfolding look_of
+listed_line v h var n width [] some len range char name fill rank = absurd (omega (arith, some))
+listed_line v h var n width (x ∷ xs) some len range char name fill rank =
+    let look = look_of h var n width in
+    let all = are_characters var.ty (x ∷ xs) char range in
+    let small : length (x ∷ xs) ≤ look.row = (let r = row_all h var n width rank in omega (arith, r, len)) in
+    record {
+      said = Characters (printed look.trimmed 0 (x ∷ xs)) ∷ [];
+      says = strings_say v look (variable_text look (x ∷ xs)) (x ∷ xs) [] name (line_closed look x xs name (ap is_char (look-type h var n width) ∙ char) rank small);
+      listed = map pos (printed look.trimmed 0 (x ∷ xs));
+      added = rw (line_takes h var n width char rank) (line_listed (room_of h.dims var) look.trimmed (x ∷ xs) (room_is h var n (length (x ∷ xs)) len));
+      full = characters.row_back look.trimmed (length (x ∷ xs)) (fill_value (trimmed_var var)) (x ∷ xs) (λ t. fill ∙ trimmed_fill h var n width t) refl all;
+      exact = λ e. ap (λ t. map pos (printed t 0 (x ∷ xs))) (line_whole h var n width rank e) ∙ back_whole (x ∷ xs) all;
+    }
 
 -- ---- characters at rank 2 and up
 
@@ -85,10 +104,16 @@ pub listed_table : (v : Version) (h : Header) (var : Var) (n width k : ℕ) (xs 
 unfolding rows_of look_of
 listed_table v h var n width k xs split some len range char name fill rank =
     let look = look_of h var n width in
-    let same = flat_rows (suc k) look.row xs split in
-    subst (λ ys. Gives v h.dims look var ys) same
-    (gives_table v h.dims look var (take look.row xs) (rows_of k look.row (drop look.row xs)) (room_is h var n width (length (flat (rows_of (suc k) look.row xs))) (Rows look.row look.fill) (ap (λ (ys : List ℤ). length ys) same ∙ len) name (table_takes h var n width char rank fill))
-    (ap is_char (look-type h var n width) ∙ char) rank (trimmed_fill h var n width) some (rows_are (suc k) look.row xs split (are_characters var.ty xs char range)))
+    let r = take look.row xs in
+    let rows = rows_of k look.row (drop look.row xs) in
+    let said = map Characters (map (printed look.trimmed 0) (r ∷ rows)) in
+    let same : flat (r ∷ rows) ≡ xs = flat_rows (suc k) look.row xs split in
+    let all = rows_are (suc k) look.row xs split (are_characters var.ty xs char range) in
+    let lens = each_map (λ (s : List ℤ). (length s ≡ look.row) × Each IsCharacter s) (λ (s : List ℤ). length s ≡ look.row) (r ∷ rows) (λ s p. p.0) all in
+    let room = room_is h var n (length (flat (r ∷ rows))) (ap (λ (ys : List ℤ). length ys) same ∙ len) in
+    gives_all v h.dims look var xs said
+    (subst (λ ys. IsStatement v Values (variable_text look ys) (Listed var.name said)) same (strings_say v look (variable_text look (flat (r ∷ rows))) r rows name (table_closed look r rows name (ap is_char (look-type h var n width) ∙ char) rank some lens)))
+    (rw (table_takes h var n width char rank fill) (rows_listed look.row look.fill (room_of h.dims var) look.trimmed [] (r ∷ rows) (trimmed_fill h var n width) room all ∙ ap Ok same))
 
 -- ---- arrays
 
@@ -114,11 +139,6 @@ table_rows dims ids total m rank e some =
     subst (WholeRows total) (let same : row ≡ row_len dims ids total = rw (h) refl in same)
     (some_rows (r.rows * m) row total (e ∙ ap (λ p. p * m) r.whole ∙ (let g : r.rows * row * m ≡ r.rows * m * row = grind arith in g)) some)
 
--- a record variable of rank 1 isn't trimmed
-line_whole : (h : Header) (var : Var) (n width : ℕ) → (look_of h var n width).in_rows ≡ false → is_record_var h.dims var ≡ true → (look_of h var n width).trimmed ≡ false
-unfolding look_of
-line_whole h var n width rank is = grind (arith, and_false, false≢true, is_on)
-
 -- ---- any variable
 
 -- the text of its values, if it has any, gives back its array
@@ -127,15 +147,6 @@ pub record IsBack (v : Version) (h : Header) (n width : ℕ) (var : Var) (array 
   pub given : IsGivenBy (has_values h.dims n var) v h.dims (look_of h var n width) var (numbers var.ty array) o
   pub back : array_of h.dims n (given_draft var o) ≡ array
   pub exact : is_record_var h.dims var ≡ true → length (listed_values (given_draft var o)) ≡ value_count h.dims var n
-
-gives_back : (v : Version) (h : Header) (n width : ℕ) (var : Var) (array : List ℕ) → IsArray h.dims n var array → has_values h.dims n var ≡ true →
-    (g : Gives v h.dims (look_of h var n width) var (numbers var.ty array)) × (array_of h.dims n (given_draft var (Some g.listed)) ≡ array) → IsBack v h n width var array
-gives_back v h n width var array is some both = record {
-  o = Some both.0.listed;
-  given = subst (λ b. IsGivenBy b v h.dims (look_of h var n width) var (numbers var.ty array) (Some both.0.listed)) (sym some) (both.0, refl);
-  back = both.1;
-  exact = λ e. ap (λ (ys : List ℤ). length ys) (both.0.exact e) ∙ (array_gives h.dims n var array is).2;
-}
 
 -- any variable that has values is given back by their text: all of them, for every width and wherever the breaks are
 pub row_back : (v : Version) (h : Header) (n width : ℕ) (var : Var) (array : List ℕ) → IsArray h.dims n var array → 0 < value_count h.dims var n → IsName var.name → (is_char var.ty ≡ true → fill_value (trimmed_var var) ≡ fill_value var) →
@@ -154,7 +165,7 @@ row_back v h n width var array is count name fill =
             let rows = table_rows h.dims var.dimids (value_count h.dims var n)
             (if is_record_var h.dims var then n else 1) rank refl count in
             listed_table v h var n width rows.0 xs (len ∙ rows.1) rows.2 len range char name (fill char) rank)
-        | false ↦ (λ rank. listed_line v h var n width xs some len range char name (fill char) rank (line_whole h var n width rank))
+        | false ↦ (λ rank. listed_line v h var n width xs some len range char name (fill char) rank)
       ] refl)
       | false ↦ (λ other. listed_numbers v h var n width xs some len range other name)
     ] refl in
@@ -167,7 +178,9 @@ no_bytes (b ∷ array) m size h z = grind arith
 pub is_back : (v : Version) (h : Header) (n width : ℕ) (var : Var) (array : List ℕ) → IsArray h.dims n var array → IsName var.name → (is_char var.ty ≡ true → fill_value (trimmed_var var) ≡ fill_value var) → IsBack v h n width var array
 is_back v h n width var array is name fill =
     elim (has_values h.dims n var) as (λ b. has_values h.dims n var ≡ b → IsBack v h n width var array) [
-      | true ↦ (λ e. gives_back v h n width var array is e (row_back v h n width var array is (grind arith) name fill))
-      | false ↦ (λ e.
-          search (rules, no_bytes))
+      | true ↦ (λ e.
+          let r = row_back v h n width var array is (grind arith) name fill in
+          let given = subst (λ b. IsGivenBy b v h.dims (look_of h var n width) var (numbers var.ty array) (Some r.0.listed)) (sym e) (r.0, refl) in
+          record { o = Some r.0.listed; given = given; back = r.1; exact = λ k. ap (λ (ys : List ℤ). length ys) (r.0.exact k) ∙ (array_gives h.dims n var array is).2 })
+      | false ↦ (λ e. search (rules, no_bytes))
     ] refl

@@ -12,10 +12,10 @@ with_same : (text : List ℕ) (at : ℕ) (k : Option TokenKind) (n : ℕ) (bytes
     map (lexeme text) (with_token text at k n ts) ≡ with_lexeme k (take n bytes) ls
 with_same text at k n bytes ts ls e h = grind (arith, one_lexeme)
 
-pub tail_at : (text : List ℕ) (at b : ℕ) (bytes : List ℕ) → drop at text ≡ b ∷ bytes → drop (at + 1) text ≡ bytes
+tail_at : (text : List ℕ) (at b : ℕ) (bytes : List ℕ) → drop at text ≡ b ∷ bytes → drop (at + 1) text ≡ bytes
 tail_at text at b bytes e = sym (drop-drop 1 at text) ∙ ap (drop 1) e
 
-lexemes_are : (text : List ℕ) (fresh : Bool) (at more : ℕ) (bytes : List ℕ) → drop at text ≡ bytes → map (lexeme text) (tokens_at text fresh at more bytes) ≡ lexemes_at fresh more bytes
+pub lexemes_are : (text : List ℕ) (fresh : Bool) (at more : ℕ) (bytes : List ℕ) → drop at text ≡ bytes → map (lexeme text) (tokens_at text fresh at more bytes) ≡ lexemes_at fresh more bytes
 unfolding tokens_at lexemes_at
 lexemes_are text fresh at more [] e = ap (λ (l : Lexeme). l ∷ []) (one_lexeme text at kinds.End 0 [] e)
 lexemes_are text fresh at (suc more) (b ∷ bytes) e = lexemes_are text fresh (at + 1) more bytes (tail_at text at b bytes e)

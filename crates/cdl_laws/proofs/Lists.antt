@@ -1,5 +1,5 @@
 -- Two tests in one, and lists, one element at a time.
-use Rattle.std.proofs.Common.{ℕ, List, [], ◌∷◌, arith, ◌++◌, ◌≡◌, Bool, true, false, ◌||◌, length, refl}
+use Rattle.std.proofs.Common.{ℕ, List, [], ◌∷◌, arith, ◌++◌, ◌≡◌, Bool, true, false, ◌||◌, length, refl, map}
 use Rattle.std.specs.List.{list_all, prefix_len}
 use Rattle.nc_base.proofs.Tests.{and_left, and_right}
 use Rattle.cdl_statements.proofs.Each.{Each}
@@ -13,6 +13,10 @@ or_right a b h = grind arith
 pub all_mono : (p q : ℕ → Bool) → ((b : ℕ) → p b ≡ true → q b ≡ true) → (bs : List ℕ) → list_all p bs ≡ true → list_all q bs ≡ true
 all_mono p q more [] h = refl
 all_mono p q more (b ∷ bs) h = grind (arith, more b, and_left, all_mono p q more bs (and_right (p b) (list_all p bs) h))
+
+pub map_none : {X Y : Type 0} (f : X → Y) (xs : List X) → map f xs ≡ [] → xs ≡ []
+map_none f [] h = refl
+map_none f (x ∷ xs) h = cc
 
 -- what all bytes pass, and none of what follows
 pub prefix_all : (p : ℕ → Bool) (w rest : List ℕ) → list_all p w ≡ true → prefix_len p rest ≡ 0 → prefix_len p (w ++ rest) ≡ length w

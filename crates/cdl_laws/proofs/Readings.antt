@@ -3,7 +3,7 @@ pub use Rattle.cdl_laws.proofs.Acts.{no_draft, AreDistinctDims, HaveNames, recor
 pub use Rattle.cdl_laws.proofs.Characters.{flat, table_closed, line_closed, IsCharacter, row_back, rows_listed, line_listed, back_whole, filled_whole, strings_said}
 pub use Rattle.cdl_laws.proofs.Declarations.{Speaks, broken_read, numbers_said, suffixed, first, others, all_bytes, dim_says, global_says, owned_says}
 pub use Rattle.cdl_laws.proofs.Heads.{numbers_say, strings_say, joined_reads, strings_fine, opens_none}
-pub use Rattle.cdl_laws.proofs.Lines.{pieces_are, run_is, tail_at}
+pub use Rattle.cdl_laws.proofs.Lines.{pieces_are, run_is, lexemes_are}
 pub use Rattle.cdl_laws.proofs.NameTexts.{rest_of, marked, bare, begins, name_len, name_value}
 pub use Rattle.cdl_laws.proofs.Numerals.{numeral_again, number_is, on_suffix, value_again, value_is}
 pub use Rattle.cdl_laws.proofs.Strings.{until_plain, string, unescape_all, between_quotes, string_token}

@@ -8,36 +8,29 @@ use Rattle.cdl_laws.proofs.Attributes.{speaks}
 pub swapped : (a b : List ℕ) → bytes_eq a b ≡ false → bytes_eq b a ≡ false
 swapped a b h = grind (arith, false≢true, bytes_eq-Decides)
 
--- none of the names stands among those before
-abbrev pub AreFresh : List (List ℕ) → List (List ℕ) → Type 0
-AreFresh done names = Each (λ name. has_name done name ≡ false) names
+-- none of the names is that of a thing before
+abbrev pub AreFresh : {Y : Type 0} → (Y → List ℕ) → List Y → List (List ℕ) → Type 0
+AreFresh made done names = Each (λ name. list_any (λ y. bytes_eq (made y) name) done ≡ false) names
 
-pub fresh_more : (done : List (List ℕ)) (n : List ℕ) (names : List (List ℕ)) → AreFresh done names → has_name names n ≡ false → AreFresh (done ++ n ∷ []) names
-fresh_more done n [] fresh new = tt
-fresh_more done n (m ∷ names) fresh new = grind (arith, list_any-append, or_left, or_right, fresh_more done n names fresh.1, false≢true, bytes_eq-Decides)
+pub fresh_more : {Y : Type 0} (made : Y → List ℕ) (done : List Y) (y : Y) (names : List (List ℕ)) → AreFresh made done names → has_name names (made y) ≡ false → AreFresh made (done ++ y ∷ []) names
+fresh_more made done y [] fresh new = tt
+fresh_more made done y (m ∷ names) fresh new = grind (arith, list_any-append, or_left, or_right, fresh_more made done y names fresh.1, false≢true, bytes_eq-Decides)
 
 pub any_map : {X : Type 0} (name : X → List ℕ) (n : List ℕ) (xs : List X) → list_any (λ x. bytes_eq (name x) n) xs ≡ has_name (map name xs) n
 any_map name n [] = refl
 any_map name n (x ∷ xs) = ap (λ b. bytes_eq (name x) n || b) (any_map name n xs)
 
-pub none_before : (names : List (List ℕ)) → AreFresh [] names
-none_before [] = tt
-none_before (n ∷ names) = (refl, none_before names)
+pub none_before : {Y : Type 0} (made : Y → List ℕ) (names : List (List ℕ)) → AreFresh made [] names
+none_before made names = each_of _ names (λ k d h. refl)
 
 -- what is good, and has no name of another, is new after what is made of the others
 pub new_after : {X Y : Type 0} (name : X → List ℕ) (made : Y → List ℕ) (f : X → Y) (P : List Y → X → Type 0) (Q : X → Type 0) →
     ((x : X) → made (f x) ≡ name x) →
     ((done : List Y) (x : X) → Q x → list_any (λ y. bytes_eq (made y) (name x)) done ≡ false → P done x) →
-    (done : List Y) (xs : List X) → AreFresh (map made done) (map name xs) → AreDistinct (map name xs) → Each Q xs → EachAfter f P done xs
+    (done : List Y) (xs : List X) → AreFresh made done (map name xs) → AreDistinct (map name xs) → Each Q xs → EachAfter f P done xs
 new_after name made f P Q same step done [] fresh distinct all = tt
-new_after name made f P Q same step done (x ∷ xs) fresh distinct all = (
-  step done x all.0 (any_map made (name x) done ∙ fresh.0),
-  new_after name made f P Q same step (done ++ f x ∷ []) xs
-      (subst (λ names. AreFresh names (map name xs))
-      (ap (λ n. map made done ++ n ∷ []) (sym (same x)) ∙ sym (map-append made done (f x ∷ [])))
-      (fresh_more (map made done) (name x) (map name xs) fresh.1 distinct.0))
-      distinct.1 all.1,
-)
+new_after name made f P Q same step done (x ∷ xs) fresh distinct all =
+    (step done x all.0 fresh.0, new_after name made f P Q same step (done ++ f x ∷ []) xs (fresh_more made done (f x) (map name xs) fresh.1 (rw (same x) distinct.0)) distinct.1 all.1)
 
 -- ---- attributes
 
@@ -47,7 +40,7 @@ att_name a = a.name
 pub atts_new : (atts : List Att) → AreDistinct (map att_name atts) → AreNewAtts [] atts
 atts_new atts distinct =
     new_after att_name att_name trimmed_att (λ done a. is_new_att done (trimmed_att a)) (λ a. Unit {0}) (λ a. refl)
-    (λ done a u new. new) [] atts (none_before (map att_name atts)) distinct (any_each atts)
+    (λ done a u new. new) [] atts (none_before att_name (map att_name atts)) distinct (any_each atts)
 
 pub atts_speak : (v : Version) (atts : List Att) → All (IsSoundAtt v) atts → All (λ (a : Att). AreBytes a.vals) atts → All HasSomeNumber atts → All (λ (a : Att). IsName a.name) atts → Each (Speaks v) atts
 atts_speak v atts sound small some names = search (rules, each_of, speaks)
@@ -71,17 +64,13 @@ once done d ds h zero_len = grind (arith, some_record, filter_append)
 abbrev pub dim_name : Dim → List ℕ
 dim_name d = d.name
 
-pub new_dims : (v : Version) (done ds : List Dim) → AreFresh (map dim_name done) (map dim_name ds) → AreDistinct (map dim_name ds) → Each (IsSoundDim v) ds → Each (λ (d : Dim). IsName d.name) ds → length (filter is_record (done ++ ds)) ≤ 1 → AreNewDims v done ds
+pub new_dims : (v : Version) (done ds : List Dim) → AreFresh dim_name done (map dim_name ds) → AreDistinct (map dim_name ds) → Each (IsSoundDim v) ds → Each (λ (d : Dim). IsName d.name) ds → length (filter is_record (done ++ ds)) ≤ 1 → AreNewDims v done ds
 new_dims v done [] fresh distinct sound names few = tt
 new_dims v done (d ∷ ds) fresh distinct sound names few =
     let a : count_limit v < 2 ^ 64 = grind arith in
-    let b = sound.0.len in
-    let short : d.len < 2 ^ 64 = omega (arith, a, b) in (
-      (names.0, any_map dim_name d.name done ∙ fresh.0, sound.0.len, short, once done d ds few),
-      new_dims v (done ++ d ∷ []) ds
-          (subst (λ ns. AreFresh ns (map dim_name ds)) (sym (map-append dim_name done (d ∷ []))) (fresh_more (map dim_name done) d.name (map dim_name ds) fresh.1 distinct.0))
-          distinct.1 sound.1 names.1 (subst (λ xs. length (filter is_record xs) ≤ 1) (sym (append_assoc done (d ∷ []) ds)) few),
-    )
+    let short : d.len < 2 ^ 64 = (let b = sound.0.len in omega (arith, a, b)) in
+    let more : length (filter is_record ((done ++ d ∷ []) ++ ds)) ≤ 1 = rw (append_assoc done (d ∷ []) ds) few in
+    ((names.0, fresh.0, sound.0.len, short, once done d ds few), new_dims v (done ++ d ∷ []) ds (fresh_more dim_name done d (map dim_name ds) fresh.1 distinct.0) distinct.1 sound.1 names.1 more)
 
 -- ---- variables
 

@@ -1,7 +1,7 @@
 -- The strings of a text stand for bytes.
-use Rattle.cdl_laws.proofs.Prelude.{◌≡◌, ℕ, zero, suc, ◌+◌, ◌-◌, ◌<◌, Bool, true, List, [], ◌∷◌, length, take, drop, sym, ◌∙◌, ap, refl, subst, arith, ◌&&◌, if◌then◌else◌, map, Option, Some, is_none, is_some, rules, false, list_all, inner, string_value, unescape, or_zero, scan, scan_text, raw, tokens_at, tokens, with_token, token_at, Scanned, Token, TokenKind, StandsForBytes, StringsStandForBytes, inner_of, Each, all_of}
+use Rattle.cdl_laws.proofs.Prelude.{◌≡◌, ℕ, zero, suc, ◌+◌, ◌-◌, ◌<◌, Bool, true, List, [], ◌∷◌, length, take, drop, sym, ◌∙◌, ap, refl, subst, arith, ◌&&◌, if◌then◌else◌, map, Option, Some, is_none, is_some, rules, false, list_all, inner, string_value, unescape, or_zero, scan, scan_text, raw, tokens_at, tokens, Lexeme, lexeme, lexemes_at, with_lexeme, Scanned, Token, TokenKind, StandsForBytes, StringsStandForBytes, inner_of, Each, all_of}
 use Rattle.cdl_tokens.specs.declared.token.TokenKind.TheVariants as kinds
-use Rattle.cdl_laws.proofs.Readings.{tail_at}
+use Rattle.cdl_laws.proofs.Readings.{lexemes_are}
 
 -- ---- what a string token is made of
 
@@ -39,26 +39,28 @@ all_some : (os : List (Option ℕ)) → list_all is_some os ≡ true → os ≡ 
 all_some (Some b ∷ os) h = ap (λ xs. Some b ∷ xs) (all_some os h)
 all_some _ h = grind arith
 
--- ---- the tokens of a text
+-- ---- the lexemes of a text
 
--- a token of a kind and a length, before others
-with_one : (text : List ℕ) (at : ℕ) (k : Option TokenKind) (n : ℕ) (rest : List Token) → (k ≡ Some kinds.Text → unescape (inner (raw text (token_at text at kinds.Text n))) ≡ map Some (string_value (inner (raw text (token_at text at kinds.Text n))))) →
-    Each (StandsForBytes text) rest → Each (StandsForBytes text) (with_token text at k n rest)
-with_one text at k n rest h h2 = grind arith
+-- the bytes between the quotes of a string stand for bytes
+abbrev Stands : Lexeme → Type 0
+Stands l = l.kind ≡ kinds.Text → unescape (inner l.bytes) ≡ map Some (string_value (inner l.bytes))
 
-raw_is : (text : List ℕ) (at n : ℕ) (bytes : List ℕ) → drop at text ≡ bytes → raw text (token_at text at kinds.Text n) ≡ take n bytes
-raw_is text at n bytes e = ap (λ m. take m (drop at text)) (let f : at + n - at ≡ n = omega arith in f) ∙ ap (take n) e
+-- a lexeme of a kind, before others
+with_one : (k : Option TokenKind) (bytes : List ℕ) (rest : List Lexeme) → (k ≡ Some kinds.Text → unescape (inner bytes) ≡ map Some (string_value (inner bytes))) → Each Stands rest → Each Stands (with_lexeme k bytes rest)
+with_one k bytes rest h h2 = grind arith
 
-strings_stand : (text : List ℕ) (fresh : Bool) (at more : ℕ) (bytes : List ℕ) → drop at text ≡ bytes → Each (StandsForBytes text) (tokens_at text fresh at more bytes)
-unfolding tokens_at
-strings_stand text fresh at more [] e = ((λ h. cc), tt)
-strings_stand text fresh at (suc more) (b ∷ bytes) e = strings_stand text fresh (at + 1) more bytes (tail_at text at b bytes e)
-strings_stand text fresh at zero (b ∷ bytes) e =
+strings_stand : (fresh : Bool) (more : ℕ) (bytes : List ℕ) → Each Stands (lexemes_at fresh more bytes)
+unfolding lexemes_at
+strings_stand fresh more [] = ((λ h. cc), tt)
+strings_stand fresh (suc more) (b ∷ bytes) = strings_stand fresh more bytes
+strings_stand fresh zero (b ∷ bytes) =
     let f = scan fresh (b ∷ bytes) in
-    with_one text at f.kind f.len (tokens_at text (fresh && is_none f.kind) (at + 1) (f.len - 1) bytes)
-    (λ is. subst (λ xs. unescape (inner xs) ≡ map Some (string_value (inner xs))) (sym (raw_is text at f.len (b ∷ bytes) e))
-    (grind (arith, inner_of, string_value, all_some, prefix_says fresh (b ∷ bytes) is)))
-    (strings_stand text (fresh && is_none f.kind) (at + 1) (f.len - 1) bytes (tail_at text at b bytes e))
+    with_one f.kind (take f.len (b ∷ bytes)) _ (λ is. grind (arith, inner_of, string_value, all_some, prefix_says fresh (b ∷ bytes) is)) (strings_stand (fresh && is_none f.kind) (f.len - 1) bytes)
+
+each_lexeme : (text : List ℕ) (ts : List Token) → Each Stands (map (lexeme text) ts) → Each (StandsForBytes text) ts
+each_lexeme text [] h = tt
+each_lexeme text (t ∷ ts) h = (h.0, each_lexeme text ts h.1)
 
 pub strings_stand_for_bytes : StringsStandForBytes
-strings_stand_for_bytes text = all_of (StandsForBytes text) (tokens text) (strings_stand text true 0 0 text refl)
+strings_stand_for_bytes text =
+    all_of (StandsForBytes text) (tokens text) (each_lexeme text (tokens text) (subst (Each Stands) (sym (lexemes_are text true 0 0 text refl)) (strings_stand true 0 text)))

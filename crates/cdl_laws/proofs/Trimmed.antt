@@ -1,5 +1,5 @@
 -- A dataset without the NULs at the end of its attributes, and the fill values of its characters.
-use Rattle.cdl_laws.proofs.Prelude.{◌≡◌, ℕ, ◌+◌, ◌-◌, ◌*◌, ◌≤◌, ◌<◌, Bool, true, false, List, [], ◌∷◌, length, map, sym, ◌∙◌, ap, refl, subst, arith, zero, suc, take, get_or, if◌then◌else◌, ◌==◌, All, rules, ℤ, pos, ◌&&◌, nat_lt, None, Some, take-length, length-take, length-map, suffix_len-take_yes, suffix_len-take_no, suffix_len, AreBytes, Dataset, Att, Dim, Known, Var, NcType, Version, fill_value, IsGood, IsSoundAtt, IsSoundVar, AreArrays, bare_var, without_trailing_nuls, IsName, record_vars, size_of, is_char, count_limit, TrimsOnce, TrimmedIsSayable, AreDistinct, AreSayableAtts, IsSayableVar, HasSomeNumber, trimmed, trimmed_att, trimmed_var, trimmed_header, each_map, each_of, all_of, default_fill_of, false≢true, eqb-true, Char, number_of, code_of, FillValueSurvivesTrim, and_left, and_right, map-map, unwrap_or}
+use Rattle.cdl_laws.proofs.Prelude.{◌≡◌, ℕ, ◌+◌, ◌-◌, ◌*◌, ◌≤◌, ◌<◌, Bool, true, false, List, [], ◌∷◌, length, map, sym, ◌∙◌, ap, refl, subst, arith, zero, suc, take, get_or, if◌then◌else◌, ◌==◌, All, rules, ℤ, pos, ◌&&◌, nat_lt, None, Some, take-length, length-take, length-map, suffix_len-take_yes, suffix_len-take_no, suffix_len, AreBytes, Dataset, Att, Dim, Known, Var, NcType, Version, fill_value, IsGood, IsSoundAtt, IsSoundVar, AreArrays, bare_var, without_trailing_nuls, IsName, record_vars, size_of, is_char, count_limit, TrimsOnce, TrimmedIsSayable, AreDistinct, AreSayableAtts, IsSayableVar, HasSomeNumber, trimmed, trimmed_att, trimmed_var, trimmed_header, each_map, each_of, all_of, default_fill_of, false≢true, eqb-true, Char, number_of, code_of, FillValueSurvivesTrim, and_left, and_right, map-map, unwrap_or, map_none}
 use Rattle.cdl_laws.proofs.Attributes.{take_bytes}
 use Rattle.cdl_laws.proofs.Datasets.{same_record, record_trimmed}
 use Rattle.cdl_laws.proofs.MeaningsAreGood.{each_of_map}
@@ -93,10 +93,6 @@ atts_still atts s =
     let some = over_map HasSomeNumber trimmed_att atts (λ a h e. subst (λ b. 0 < length (if b then without_trailing_nuls a.vals else a.vals)) (sym e) (h e)) s.some in
     grind (arith, map-map (λ (a : Att). a.name) trimmed_att atts, some)
 
-no_vars : (vars : List Var) → map trimmed_var vars ≡ [] → vars ≡ []
-no_vars [] h = refl
-no_vars (var ∷ vars) h = absurd (let a = ap (λ (xs : List Var). length xs) h in omega (arith, a))
-
 pub trimmed_is_sayable : TrimmedIsSayable
 trimmed_is_sayable d s = record {
   good = good_still d s.good;
@@ -104,7 +100,7 @@ trimmed_is_sayable d s = record {
   gatts = atts_still d.header.gatts s.gatts;
   names = subst AreDistinct (sym (map-map (λ (var : Var). var.name) trimmed_var d.header.vars)) s.names;
   vars = over_map IsSayableVar trimmed_var d.header.vars (λ var is. record { atts = atts_still var.atts is.atts; fill = λ e. ap fill_value (var_once var) }) s.vars;
-  records = λ e. s.records (no_vars (record_vars d.header.dims d.header.vars) (sym (record_trimmed d.header.dims d.header.vars) ∙ e));
+  records = λ e. s.records (map_none trimmed_var (record_vars d.header.dims d.header.vars) (sym (record_trimmed d.header.dims d.header.vars) ∙ e));
 }
 
 -- ---- fill values of characters
