@@ -1,7 +1,7 @@
 -- The opening, the section marks and the closing brace of a dump.
-use Rattle.cdl_laws.proofs.Prelude.{◌≡◌, ℕ, ◌+◌, true, false, List, [], ◌∷◌, ◌++◌, length, map, ◌∙◌, ap, refl, arith, append_assoc, length-append, ◌==◌, Some, Ok, codes, rules, if◌then◌else◌, suc, false≢true, eqb-true, concat_parts, Att, Dim, Var, Version, escaped_name, is_reserved, name_of, is_plain, dim_line, dim_lines, dims_text, att_line, att_lines, var_lines, vars_text, gatts_text, dimensions_word, variables_word, global_word, IsName, Section, Globals, Dimensions, Variables, Values, Ended, scan, word_len, len_until, piece_read, empty, pieces_after, is_section, cut_lexemes, lexemes_at, lexemes, pieces_of, trimmed_att, Enter, shape, State, Draft, act, in_turn, globals, dimensions, variables, and_left, until_at_start, lt-ltb, not_none, IsStatement, Each}
+use Rattle.cdl_laws.proofs.Prelude.{◌≡◌, ℕ, subst, None, ◌+◌, true, false, List, [], ◌∷◌, ◌++◌, length, map, ◌∙◌, ap, refl, arith, append_assoc, length-append, ◌==◌, Some, Ok, codes, rules, if◌then◌else◌, suc, false≢true, eqb-true, concat_parts, Att, Dim, Var, Version, escaped_name, is_reserved, name_of, is_plain, dim_line, dim_lines, dims_text, att_line, att_lines, var_lines, vars_text, gatts_text, dimensions_word, variables_word, global_word, IsName, Section, Globals, Dimensions, Variables, Values, Ended, scan, word_len, len_until, piece_read, empty, pieces_after, is_section, cut_lexemes, lexemes_at, lexemes, pieces_of, trimmed_att, Enter, shape, State, Draft, act, in_turn, globals, dimensions, variables, and_left, until_at_start, lt-ltb, not_none, IsStatement, map-id, DeclareDimensions, said_dim, add_dim, ◌>>=◌}
 use Rattle.cdl_tokens.specs.declared.token.TokenKind.TheVariants as kinds
-use Rattle.cdl_laws.proofs.Readings.{rest_of, marked, bare, begins, mark, word, prefix_again, some_name, marks_closed, turn, until_plain, Takes, says_takes, takes_both, takes_nothing, is_open, Speaks, state, dims_taken, AreNewDims, AreNewAtts, globals_taken, AreFit, IsFit, all_taken, var_taken, draft_of}
+use Rattle.cdl_laws.proofs.Readings.{rest_of, marked, bare, begins, mark, word, prefix_again, some_name, marks_closed, turn, until_plain, Takes, says_takes, takes_both, takes_nothing, is_open, Speaks, state, AreNewDims, IsNewDim, AreNewAtts, atts_taken, global_says, dim_says, AreFit, IsFit, all_taken, var_taken, draft_of}
 use Rattle.cdl_laws.proofs.Acts as acts
 
 -- ---- section marks
@@ -37,7 +37,14 @@ unfolding dims_text dim_lines act
 dims_part v n [] gatts drafts h = takes_nothing v (state Globals [] gatts drafts)
 dims_part v n (d ∷ dims) gatts drafts h =
     headed v dimensions_word (map (dim_line n) (d ∷ dims)) (length dims) _ _ _
-    (says_takes v dimensions_word (Enter Dimensions) _ _ (dimensions_says v) refl) (dims_taken v n (d ∷ dims) gatts drafts h)
+    (says_takes v dimensions_word (Enter Dimensions) _ _ (dimensions_says v) refl)
+    (subst (λ all. Takes v (concat_parts (map (dim_line n) (d ∷ dims))) (now []) (now all)) (map-id (d ∷ dims))
+    (all_taken v (dim_line n) (λ e. e) (IsNewDim v) now
+    (λ done e new. says_takes v (dim_line n e) (DeclareDimensions (said_dim e ∷ [])) (now done) (now (done ++ e ∷ [])) (dim_says v n e new.0 new.3)
+    (ap (λ r. r >>= (λ all. Ok (now all))) (turn (add_dim v) done (done ++ e ∷ []) (said_dim e) [] (acts.dim_added v done e new.0 new.1 new.2 new.4)))) [] (d ∷ dims) h))
+  where
+    now : List Dim → State
+    now all = state Dimensions all gatts drafts
 
 pub variables_says : (v : Version) (dims : List Dim) → IsStatement v (after_dims dims) variables_word (Enter Variables)
 unfolding variables_word pieces_of lexemes_at scan word_len pieces_after is_section shape
@@ -51,20 +58,22 @@ vars_part v dims [] gatts distinct names fit = takes_nothing v (state (after_dim
 vars_part v dims (var ∷ vars) gatts distinct names fit =
     headed v variables_word (map (var_lines dims) (var ∷ vars)) (length vars) _ _ _
     (says_takes v variables_word (Enter Variables) _ _ (variables_says v dims) refl)
-    (all_taken v (var_lines dims) draft_of (IsFit v dims) (λ drafts. state Variables dims gatts drafts) (λ before w is. var_taken v dims gatts before w is distinct names) [] (var ∷ vars) fit)
+    (all_taken v (var_lines dims) draft_of (λ done w. IsFit v dims w × acts.no_draft w.name done) (λ drafts. state Variables dims gatts drafts) (λ before w is. var_taken v dims gatts before w is.0 is.1 distinct names) [] (var ∷ vars) fit)
 
 -- the line before global attributes is a comment
 pub comment_back : (rest : List ℕ) → pieces_of (global_word ++ rest) ≡ pieces_of rest
 unfolding pieces_of global_word lexemes_at scan
 comment_back rest = refl
 
-pub gatts_part : (v : Version) (dims : List Dim) (vars : List Var) (gatts : List Att) (drafts : List Draft) → Each (Speaks v) gatts → AreNewAtts [] gatts →
+pub gatts_part : (v : Version) (dims : List Dim) (vars : List Var) (gatts : List Att) (drafts : List Draft) → AreNewAtts v gatts →
     Takes v (gatts_text gatts) (state (after_vars (after_dims dims) vars) dims [] drafts) (state (after_vars (after_dims dims) vars) dims (map trimmed_att gatts) drafts)
-unfolding gatts_text att_lines
-gatts_part v dims vars [] drafts speak new = takes_nothing v (state (after_vars (after_dims dims) vars) dims [] drafts)
-gatts_part v dims vars (a ∷ gatts) drafts speak new =
+unfolding gatts_text att_lines act
+gatts_part v dims vars [] drafts new = takes_nothing v (state (after_vars (after_dims dims) vars) dims [] drafts)
+gatts_part v dims vars (a ∷ gatts) drafts new =
+    let section = after_vars (after_dims dims) vars in
+    let now : List Att → State = λ done. state section dims done drafts in
     headed v global_word (map (att_line []) (a ∷ gatts)) (length gatts) _ _ _ (λ rest. ap (in_turn (piece_read v) _) (comment_back rest))
-    (globals_taken v (after_vars (after_dims dims) vars) dims (a ∷ gatts) drafts (grind (arith, globals, dimensions, variables)) speak new)
+    (atts_taken v None now (λ done. global_says v section (grind (arith, globals, dimensions, variables))) (λ done att said e. ap (λ r. r >>= (λ all. Ok (now all))) e) (a ∷ gatts) new)
 
 -- ---- the end
 

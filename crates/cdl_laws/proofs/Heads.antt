@@ -1,10 +1,10 @@
 -- The statements of a dump, and what they say.
-use Rattle.cdl_laws.proofs.Prelude.{◌≡◌, ℕ, ◌^◌, ◌<◌, ◌≤◌, true, false, List, [], ◌∷◌, ◌++◌, length, map, ap, refl, arith, append_assoc, ℤ, unsigned_abs, ◌==◌, not, None, Some, codes, rules, printed, list_all, prefix_all, NcType, Byte, Char, Short, Int, Ubyte, Ushort, Uint, Int64, Uint64, Version, escaped_name, is_plain, is_reserved, joined, IsName, type_word, Look, is_char, variable_text, Values, may_begin_word, scan, word_len, Lexeme, role, is_section, section_of, Value, Characters, Listed, both, constants, shape, and_left, and_right, and_both, word_at_start, Each, any_each, IsStatement}
+use Rattle.cdl_laws.proofs.Prelude.{◌≡◌, ℕ, ◌^◌, ◌<◌, ◌≤◌, true, false, List, [], ◌∷◌, ◌++◌, length, map, ap, refl, arith, append_assoc, ℤ, unsigned_abs, ◌==◌, not, None, Some, codes, rules, printed, list_all, prefix_all, NcType, Byte, Char, Short, Int, Ubyte, Ushort, Uint, Int64, Uint64, Version, escaped_name, is_plain, is_reserved, joined, IsName, type_word, Look, is_char, variable_text, Values, may_begin_word, scan, word_len, Lexeme, role, is_section, section_of, Value, Characters, Listed, both, constants, shape, and_left, and_right, and_both, word_at_start, Each, any_each, IsStatement, sym, ◌∙◌, false≢true, variable_opening, variable_closing, concat_parts, prefix_is, constant}
 use Rattle.cdl_laws.proofs.NameTexts.{no_escape}
-use Rattle.cdl_laws.proofs.Texts.{Closed, Reads, stops, mark, mark_read, word, number, name_word, word_reads, stop_word, prefix_again, marks_closed}
+use Rattle.cdl_laws.proofs.Texts.{Closed, Reads, stops, mark, mark_read, word, number, name_word, word_reads, stop_word, prefix_again, marks_closed, reading}
 use Rattle.cdl_laws.proofs.Numerals.{value_again}
 use Rattle.cdl_laws.proofs.Strings.{string}
-use Rattle.cdl_laws.proofs.ValueTexts.{commas, AreSmall, value_lexeme, value_said, numbers_closed, values_said}
+use Rattle.cdl_laws.proofs.ValueTexts.{commas, AreSmall, value_lexeme, value_said, all_read, constants_say}
 use Rattle.cdl_laws.proofs.Characters.{strings, strings_said}
 use Rattle.cdl_laws.proofs.Takes.{statement_says, semicolon, is_fine, word_fine, is_starter, all_fine}
 
@@ -70,10 +70,12 @@ listed_says v name bytes l ls values h closed fine are =
 
 pub numbers_say : (v : Version) (look : Look) (x : ℤ) (xs : List ℤ) → IsName look.name → is_char look.ty ≡ false → (look.in_rows ≡ false → length (x ∷ xs) ≤ look.row) → AreSmall (x ∷ xs) →
     IsStatement v Values (variable_text look (x ∷ xs)) (Listed look.name (map (value_said look) (x ∷ xs)))
-numbers_say v look x xs name ty small fit =
-    listed_says v look.name (variable_text look (x ∷ xs)) (value_lexeme look x) (map (value_lexeme look) xs) (map (value_said look) (x ∷ xs)) name (numbers_closed look x xs name ty small fit)
+unfolding variable_text variable_opening variable_closing concat_parts
+numbers_say v look x xs name other small fit =
+    listed_says v look.name (variable_text look (x ∷ xs)) (value_lexeme look x) (map (value_lexeme look) xs) (map (value_said look) (x ∷ xs)) name
+    (λ rest. simp (prefix_is look (x ∷ xs) (λ char some. absurd (false≢true (sym other ∙ char))), reading, other, all_read look (variable_opening look) [] x xs other (λ e. let f = small e in omega (arith, f)) fit))
     (all_fine v (value_lexeme look) (λ y. unsigned_abs y < 2 ^ 64) (λ y h. grind (arith, word, codes, number, word_fine, value_again)) (x ∷ xs) fit)
-    (values_said v look x xs fit)
+    (constants_say v true (value_lexeme look) (value_said look) (λ y. unsigned_abs y < 2 ^ 64) (λ y h. grind (arith, constant, word, codes, number, value_again)) x xs fit)
 
 pub strings_fine : (v : Version) (all : List (List ℕ)) → list_all (is_fine v) (map string all) ≡ true
 strings_fine v all = all_fine v string (λ b. Unit {0}) (λ b u. refl) all (any_each all)

@@ -27,8 +27,3 @@ prefix_all p (b ∷ w) rest all h = grind (arith, and_left (p b) (list_all p w) 
 abbrev pub EachAfter : {X Y : Type 0} → (X → Y) → (List Y → X → Type 0) → List Y → List X → Type 0
 EachAfter f P done [] = Unit {0}
 EachAfter f P done (x ∷ xs) = P done x × EachAfter f P (done ++ f x ∷ []) xs
-
-pub each_after : {X Y : Type 0} (f : X → Y) (Q : X → Type 0) (P : List Y → X → Type 0) (done : List Y) (xs : List X) → Each Q xs →
-    EachAfter f P done xs → EachAfter f (λ before x. Q x × P before x) done xs
-each_after f Q P done [] q p = tt
-each_after f Q P done (x ∷ xs) q p = ((q.0, p.0), each_after f Q P (done ++ f x ∷ []) xs q.1 p.1)

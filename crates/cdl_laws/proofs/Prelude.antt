@@ -1,7 +1,7 @@
 -- The names that proofs of this crate cite from elsewhere, passed on from one place.
 pub use Rattle.std.proofs.Common.{◌≡◌, ℕ, ◌+◌, ◌*◌, ◌-◌, ◌/◌, ◌<◌, true, List, [], ◌∷◌, ◌++◌, map, ◌∙◌, ap, refl, arith, append_assoc, slice_index_or, ◌⊎◌, drop, sym, subst, false, append-nil, None, Ok, codes, rules, length, Result, ℤ, Bool, get_or, if◌then◌else◌, suc, ◌^◌, Some, ◌≤◌, unsigned_abs, ◌==◌, not, Option, zero, take, ◌&&◌, is_none, is_some, ◌||◌, All, filter, slice_get, pos, replicate, ◌%◌, decimal, negsuc, nat_le, length-drop, nat_lt, find, neg_ℤ, Err}
 pub use Rattle.cdl_laws.specs.Goods.{KeepsFill, IsNearlySayable, MeaningsAreGood, MeaningsAreNearlySayable}
-pub use Rattle.cdl_laws.specs.PieceLaws.{AttributeReadsBack, DeclarationReadsBack, IsBeforeData, IsStatement, SaysStatement, brace_piece, declaration, dimensions, globals, opening_line, opening_piece, said_dim, variables}
+pub use Rattle.cdl_laws.specs.PieceLaws.{AttributeReadsBack, DeclarationReadsBack, IsBeforeData, IsStatement, SaysStatement, brace_piece, declaration, dimensions, globals, opening_line, opening_piece, said_dim, variables, escaped_owner}
 pub use Rattle.cdl_laws.specs.Reading.{cut_lexemes, lexemes, with_lexeme}
 unfoldable pub use Rattle.cdl_laws.specs.Reading.{lexemes_at, pieces_of}
 pub use Rattle.cdl_laws.specs.RoundTrip.{IsFull, TextReadsBack}
@@ -90,7 +90,7 @@ pub use Rattle.nc_base.proofs.ValueLaws.{look-type, length-numbers_from}
 pub use Rattle.nc_base.proofs.CharacterRows.{prefix_is, pieces_are, a_row}
 unfoldable pub use Rattle.nc_base.proofs.CharacterRows.{char_pieces, printed}
 pub use Rattle.cdl_statements.proofs.InRange.{is_had}
-pub use Rattle.cdl_laws.proofs.Lists.{EachAfter, each_after, or_left, or_right, prefix_all, all_mono, map_none}
+pub use Rattle.cdl_laws.proofs.Lists.{EachAfter, or_left, or_right, prefix_all, all_mono, map_none}
 pub use Rattle.cdl_statements.proofs.Each.{Each, all_of, each_drop, each_map, each_more, each_of, each_take}
 pub use Rattle.cdl_statements.proofs.Meanings.{IsByte, IsWhole, are_bytes, meanings_are_whole, number_bytes}
 pub use Rattle.cdl_statements.proofs.Results.{OkIs, any_each, ok_next, ok_then, ok_unless, ok_when, turns}

@@ -10,4 +10,4 @@ pub use Rattle.cdl_laws.proofs.Strings.{until_plain, string, unescape_all, betwe
 pub use Rattle.cdl_laws.proofs.Takes.{Takes, takes_nothing, says_takes, takes_both, is_open, all_fine}
 pub use Rattle.cdl_laws.proofs.Texts.{mark, word, prefix_again, some_name, marks_closed, Reads, number, number_reads, is_stop, stop_word, name_word}
 pub use Rattle.cdl_laws.proofs.ValueTexts.{turn, AreSmall, value_said, numbers_listed, IsWithin, commas, constants_say}
-pub use Rattle.cdl_laws.proofs.Wholes.{state, draft_of, IsFit, AreNewDims, AreNewAtts, AreFit, dims_taken, globals_taken, all_taken, var_taken, declared}
+pub use Rattle.cdl_laws.proofs.Wholes.{state, draft_of, IsFit, AreNewDims, AreNewAtts, AreFit, IsNewDim, atts_taken, all_taken, var_taken, declared}

@@ -25,13 +25,8 @@ in_if P b x y h h2 = grind arith
 abbrev pub HasBytes : Lexeme → Type 0
 HasBytes l = Each IsByte l.bytes
 
--- ---- the ends of lists
-
-ended : {A : Type 0} (P : A → Type 0) (a : A) (ls : List Lexeme) → P a → SomeIs P (at_end a ls)
-ended P a ls h = grind arith
-
 member_some : {A : Type 0} (P : List A → Type 0) (others : Option (List A)) (c : Lexeme) (ls : List Lexeme) → P [] → SomeIs P others → SomeIs P (after_member others c ls)
-member_some P others c ls none h = grind (arith, some_given, ended P [] ls none)
+member_some P others c ls none h = grind arith
 
 -- ---- constants
 
@@ -61,6 +56,9 @@ abbrev pub IsSaid : Statement → Type 0
 IsSaid (Attribute o name cs) = Each IsFineValue cs
 IsSaid _ = Unit {0}
 
+ended : (st : Statement) (ls : List Lexeme) → IsSaid st → SomeIs IsSaid (at_end st ls)
+ended st ls h = grind arith
+
 assigned_says : (v : Version) (takes_fill : Bool) (f : List ℕ → List Value → Statement) (ls : List Lexeme) → Each HasBytes ls →
     ((name : List ℕ) (cs : List Value) → Each IsFineValue cs → IsSaid (f name cs)) → SomeIs IsSaid (assigned v takes_fill f ls)
 assigned_says v takes_fill f (n ∷ e ∷ ls) h g =
@@ -69,7 +67,7 @@ assigned_says v takes_fill f (n ∷ e ∷ ls) h g =
 assigned_says v takes_fill f _ h g = tt
 
 marks_say : (before : Section) (l : Lexeme) (ls : List Lexeme) → SomeIs IsSaid (section_mark before l ls)
-marks_say before l (c ∷ []) = grind (arith, some_given)
+marks_say before l (c ∷ []) = grind arith
 marks_say before l _ = grind arith
 
 attribute_says : (v : Version) (o : Option (List ℕ)) (ls : List Lexeme) → Each HasBytes ls → SomeIs IsSaid (assigned v false (Attribute o) ls)
@@ -81,29 +79,17 @@ owned_says v l o c ls h = grind (arith, attribute_says v o ls h, marks_say Varia
 other_says : (v : Version) (section : Section) (l : Lexeme) (ls : List Lexeme) → Each HasBytes ls → SomeIs IsSaid (other_statement v section l ls)
 other_says v Globals l ls h = marks_say Globals l ls
 other_says v Dimensions l ls h = grind (arith, marks_say)
-other_says v Variables l (c ∷ ls) h =
-    some_given IsSaid (is_word_kind l.kind) _ (λ e.
-    in_if (SomeIs IsSaid) (is_mark 0x3a c) (attribute_or_mark v l (name_of l) (c ∷ ls)) (option_map (DeclareVariables l) (shapes.variables (c ∷ ls))) (owned_says v l (name_of l) c ls h.1)
-    (some_map IsSaid (DeclareVariables l) (shapes.variables (c ∷ ls)) (some_any (shapes.variables (c ∷ ls)))))
+other_says v Variables l (c ∷ ls) h = search (rules, some_given, in_if (SomeIs IsSaid), owned_says v l (name_of l) c ls h.1, some_map, some_any)
 other_says v _ l _ h = tt
-
-open_says : (v : Version) (section : Section) (l : Lexeme) (ls : List Lexeme) → Each HasBytes ls →
-    SomeIs IsSaid (if is_mark 0x7d l then at_end Close ls else (if is_mark 0x3a l then assigned v false (Attribute None) ls else other_statement v section l ls))
-open_says v section l ls h =
-    search (rules, in_if (SomeIs IsSaid), ended IsSaid Close ls tt, attribute_says v None ls h, other_says v section l ls h)
 
 pub shape_says : (v : Version) (section : Section) (ls : List Lexeme) → Each HasBytes ls → SomeIs IsSaid (shape v section ls)
 unfolding shape
 shape_says v section [] h = tt
-shape_says v Unopened (l ∷ ls) h = some_given IsSaid (is_opening_kind l.kind) (at_end Open ls) (λ e. ended IsSaid Open ls tt)
-shape_says v Closed (l ∷ ls) h = some_given IsSaid (is_end_kind l.kind) (at_end End ls) (λ e. ended IsSaid End ls tt)
+shape_says v Unopened (l ∷ ls) h = search (rules, some_given, ended)
+shape_says v Closed (l ∷ ls) h = search (rules, some_given, ended)
 shape_says v Ended (l ∷ ls) h = tt
-shape_says v Values (l ∷ ls) h =
-    in_if (SomeIs IsSaid) (is_mark 0x7d l) (at_end Close ls) (assigned v true Listed (l ∷ ls)) (ended IsSaid Close ls tt)
-    (assigned_says v true Listed (l ∷ ls) h (λ name cs fine. tt))
-shape_says v Globals (l ∷ ls) h = open_says v Globals l ls h.1
-shape_says v Dimensions (l ∷ ls) h = open_says v Dimensions l ls h.1
-shape_says v Variables (l ∷ ls) h = open_says v Variables l ls h.1
+shape_says v Values (l ∷ ls) h = search (rules, in_if (SomeIs IsSaid), ended, assigned_says v true Listed (l ∷ ls) h (λ name cs fine. tt))
+shape_says v section (l ∷ ls) h = search (rules, in_if (SomeIs IsSaid), ended, attribute_says v None ls h.1, other_says v section l ls h.1)
 
 pub piece_bytes : (text : List ℕ) (p : List Token) → Each IsByte text → Each HasBytes (map (lexeme text) p)
 piece_bytes text [] h = tt

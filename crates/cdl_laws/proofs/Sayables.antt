@@ -37,10 +37,10 @@ new_after name made f P Q same step done (x ∷ xs) fresh distinct all =
 abbrev pub att_name : Att → List ℕ
 att_name a = a.name
 
-pub atts_new : (atts : List Att) → AreDistinct (map att_name atts) → AreNewAtts [] atts
-atts_new atts distinct =
-    new_after att_name att_name trimmed_att (λ done a. is_new_att done (trimmed_att a)) (λ a. Unit {0}) (λ a. refl)
-    (λ done a u new. new) [] atts (none_before att_name (map att_name atts)) distinct (any_each atts)
+pub atts_new : (v : Version) (atts : List Att) → AreDistinct (map att_name atts) → Each (Speaks v) atts → AreNewAtts v atts
+atts_new v atts distinct speak =
+    new_after att_name att_name trimmed_att (λ done a. Speaks v a × is_new_att done (trimmed_att a)) (Speaks v) (λ a. refl)
+    (λ done a s new. (s, new)) [] atts (none_before att_name (map att_name atts)) distinct speak
 
 pub atts_speak : (v : Version) (atts : List Att) → All (IsSoundAtt v) atts → All (λ (a : Att). AreBytes a.vals) atts → All HasSomeNumber atts → All (λ (a : Att). IsName a.name) atts → Each (Speaks v) atts
 atts_speak v atts sound small some names = search (rules, each_of, speaks)
@@ -79,15 +79,3 @@ draft_name d = d.var.name
 
 abbrev pub var_name : Var → List ℕ
 var_name var = var.name
-
--- what soundness and the rest say of a variable's head
-pub record IsSayableHead (v : Version) (dims : List Dim) (var : Var) : Type 0 where
-  pub name : IsName var.name
-  pub sound : IsSoundVar v dims var
-  pub names : All (λ (a : Att). IsName a.name) var.atts
-  pub bytes : All (λ (a : Att). AreBytes a.vals) var.atts
-  pub sayable : IsSayableVar var
-  pub bare : var.begin_at ≡ 0
-
-pub fit : (v : Version) (dims : List Dim) (before : List Draft) (var : Var) → IsSayableHead v dims var → no_draft var.name before → IsFit v dims before var
-fit v dims before var head new = grind (arith, atts_speak, atts_new)

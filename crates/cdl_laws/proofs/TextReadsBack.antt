@@ -5,7 +5,7 @@ use Rattle.cdl_laws.proofs.DataTexts.{all_marked}
 use Rattle.cdl_laws.proofs.Datasets.{AreBack, are_back, data_whole}
 use Rattle.cdl_laws.proofs.Ends.{opening_bytes, opened, dims_part, vars_part, gatts_part, data_says, end_taken, after_dims, after_vars}
 use Rattle.nc_base.specs.declared.header.NumRecs.{NumRecs}
-use Rattle.cdl_laws.proofs.Sayables.{new_after, none_before, draft_name, var_name, atts_new, atts_speak, new_dims, dim_name, IsSayableHead, fit}
+use Rattle.cdl_laws.proofs.Sayables.{new_after, none_before, draft_name, var_name, atts_new, atts_speak, new_dims, dim_name}
 use Rattle.cdl_laws.proofs.Trimmed.{good_still}
 
 dump_is : (h : Header) (o : Options) (n : ℕ) (section : DataText) →
@@ -53,16 +53,15 @@ ready d o s full section g is =
     let h = d.header in
     let v = h.version in
     let n = g.records in
-    let head = each_of (IsSayableHead v h.dims) h.vars (λ k var within. record {
+    let fit = each_of (IsFit v h.dims) h.vars (λ k var within. record {
       name = (g.names.vars k var within).0;
-      sound = g.is_sound.vars k var within;
-      names = (g.names.vars k var within).1;
-      bytes = g.values.vars k var within;
-      sayable = s.vars k var within;
+      shape = (g.is_sound.vars k var within).shape;
+      ty = (g.is_sound.vars k var within).ty;
+      atts = atts_new v (slice_index_or h.vars k var).atts (s.vars k var within).atts.names (atts_speak v _ (g.is_sound.vars k var within).atts (g.values.vars k var within) (s.vars k var within).atts.some (g.names.vars k var within).1);
       bare = ap (λ (it : Header). (slice_index_or it.vars k var).begin_at) g.is_bare ∙ ap (λ (w : Var). w.begin_at) (get_or-map bare_var h.vars k var var within);
     }) in
-    let valid = each_map (IsSayableHead v h.dims) (λ (var : Var). IsName var.name × KeepsFill var × (0 < slab_count h.dims var)) h.vars
-    (λ var x. (x.name, x.sayable.fill, some_count h.dims var.dimids x.sound.shape)) head in
+    let valid = each_of (λ (var : Var). IsName var.name × KeepsFill var × (0 < slab_count h.dims var)) h.vars
+    (λ k var within. ((g.names.vars k var within).0, (s.vars k var within).fill, some_count h.dims _ (g.is_sound.vars k var within).shape)) in
     let b = are_back d n o.width 0 h.vars d.arrays refl g.arrays valid in
     let bytes = dump_text h o n section in
     let gatts = map trimmed_att h.gatts in
@@ -73,9 +72,8 @@ ready d o s full section g is =
     let small = small_all d end n g back count b.small in
     let dim_names = each_of (λ (dim : Dim). IsName dim.name) h.dims g.names.dims in
     let dims = new_dims v [] h.dims (none_before dim_name (map dim_name h.dims)) s.dims (each_of (IsSoundDim v) h.dims g.is_sound.dims) dim_names g.is_sound.one_record_dim in
-    let vars = new_after var_name draft_name draft_of (IsFit v h.dims) (IsSayableHead v h.dims) (λ var. refl) (fit v h.dims) [] h.vars (none_before draft_name (map var_name h.vars)) s.names head in
-    let speak = atts_speak v h.gatts g.is_sound.gatts g.values.gatts s.gatts.some g.names.gatts in
-    let fresh = atts_new h.gatts s.gatts.names in
+    let vars = new_after var_name draft_name draft_of (λ done var. IsFit v h.dims var × no_draft var.name done) (IsFit v h.dims) (λ var. refl) (λ done var f new. (f, new)) [] h.vars (none_before draft_name (map var_name h.vars)) s.names fit in
+    let fresh = atts_new v h.gatts s.gatts.names (atts_speak v h.gatts g.is_sound.gatts g.values.gatts s.gatts.some g.names.gatts) in
     let values = data_read d o n gatts full h.vars d.arrays refl b s.names in
     let whole_text : in_turn (piece_read v) empty (cut_lexemes (lexemes bytes)) ≡ Ok end =
     grind (arith, selected, data_whole d n o.width 0 h.vars, dump_is, opened, dims_part, vars_part, gatts_part, values) in

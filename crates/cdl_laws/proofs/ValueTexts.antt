@@ -1,5 +1,5 @@
 -- The listed numbers of a variable are read back, wherever the breaks are.
-use Rattle.cdl_laws.proofs.Prelude.{◌≡◌, ℕ, ◌+◌, ◌^◌, ◌<◌, ◌≤◌, Bool, true, false, List, [], ◌∷◌, ◌++◌, length, map, sym, ◌∙◌, ap, refl, arith, append_assoc, append-nil, length-append, ℤ, unsigned_abs, ◌&&◌, if◌then◌else◌, Some, Result, Ok, codes, ◌⊎◌, Option, None, signed_decimal, flat_map, int_eq, mod-eq_of_lt, false≢true, concat_parts, escaped_name, Int, Version, IsName, Look, is_char, number_text, number_lead, number_piece, piece, pieces, variable_opening, variable_closing, variable_text, prefix_is, CdlKind, Lexeme, Value, Number, Underscore, both, constant, constants, Numbers, has_number, in_turn, word_at_start, Each, NcType, add_value, le-leb}
+use Rattle.cdl_laws.proofs.Prelude.{◌≡◌, ℕ, zero, suc, ◌+◌, ◌^◌, ◌<◌, ◌≤◌, Bool, true, false, List, [], ◌∷◌, ◌++◌, length, map, sym, ◌∙◌, ap, refl, arith, append_assoc, append-nil, length-append, ℤ, unsigned_abs, ◌&&◌, if◌then◌else◌, Some, Result, Ok, codes, ◌⊎◌, Option, None, signed_decimal, flat_map, int_eq, mod-eq_of_lt, false≢true, concat_parts, escaped_name, Int, Version, IsName, Look, is_char, number_text, number_lead, number_piece, piece, pieces, variable_opening, variable_closing, variable_text, prefix_is, CdlKind, Lexeme, Value, Number, Underscore, both, constant, constants, Numbers, has_number, in_turn, word_at_start, Each, NcType, add_value, le-leb}
 use Rattle.cdl_laws.proofs.Texts.{Closed, Reads, stops, mark, word, number, word_reads, stop_word, marks_closed, number_reads, reading}
 use Rattle.cdl_laws.proofs.Numerals.{value_again, value_is}
 
@@ -56,10 +56,16 @@ gap : (look : Look) (i : ℕ) → 0 < i → (look.in_rows ≡ false → i < look
     (number_lead look i ≡ codes ", ") ⊎ (number_lead look i ≡ codes ",\n  ")
 gap look i some small = grind (arith, codes, false≢true, mod-eq_of_lt)
 
-lead_read : (look : Look) (i : ℕ) → 0 < i → (look.in_rows ≡ false → i < look.row) → Closed (number_lead look i) (comma ∷ [])
-lead_read look i some small = grind (arith, gap look i some small, marks_closed)
+-- what comes before the number in this place, as lexemes
+abbrev pub led : ℕ → List Lexeme
+led zero = []
+led (suc i) = comma ∷ []
 
--- ---- the numbers after the first
+lead_read : (look : Look) (i : ℕ) → (look.in_rows ≡ false → i < look.row) → Closed (number_lead look i) (led i)
+lead_read look zero small = grind (arith, marks_closed)
+lead_read look (suc i) small = grind (arith, gap look (suc i) (omega arith) small, marks_closed)
+
+-- ---- the numbers
 
 -- the values fit
 abbrev pub AreSmall : List ℤ → Type 0
@@ -79,46 +85,21 @@ unfolding number_piece
 more_stop look before values [] h some small rest stop = grind (arith, pieces_none, pieces_first, pieces, piece)
 more_stop look before values _ h some small rest stop = grind (arith, pieces_first, pieces, piece, append_assoc, gap)
 
-more_read : (look : Look) (before : List ℕ) (values xs : List ℤ) → is_char look.ty ≡ false → 0 < length values → (look.in_rows ≡ false → length values + length xs ≤ look.row) → AreSmall xs →
-    Reads (pieces look before values xs) (commas (map (value_lexeme look) xs))
+-- the numbers from one on, after these values
+pub all_read : (look : Look) (before : List ℕ) (values : List ℤ) (x : ℤ) (xs : List ℤ) → is_char look.ty ≡ false → (look.in_rows ≡ false → length values + length (x ∷ xs) ≤ look.row) → AreSmall (x ∷ xs) →
+    Reads (pieces look before values (x ∷ xs)) (led (length values) ++ value_lexeme look x ∷ commas (map (value_lexeme look) xs))
 unfolding number_piece
-more_read look before values [] h some small fit rest stop = rw (pieces_none look before values)
-more_read look before values (x ∷ xs) h some small fit rest stop =
+all_read look before values x [] h small fit rest stop =
+    simp (pieces_first look before values x [] h, pieces_none, append_assoc, lead_read look (length values) (λ e. let f = small e in omega (arith, f)), break_read, text_reads look x fit.0, stop)
+all_read look before values x (y ∷ ys) h small fit rest stop =
     let after = before ++ piece look before values x in
-    let len = length-append values (x ∷ []) in
-    let some2 : 0 < length (values ++ x ∷ []) = omega (arith, len) in
-    let small2 : look.in_rows ≡ false → length (values ++ x ∷ []) + length xs ≤ look.row = λ e. let f = small e in omega (arith, f, len) in
-    let lead = lead_read look (length values) some (λ e. let f = small e in omega (arith, f)) in
-    let stop_after = more_stop look after (values ++ x ∷ []) xs h some2 small2 rest stop in
-    let more = more_read look after (values ++ x ∷ []) xs h some2 small2 fit.1 in
-    simp (pieces_first look before values x xs h, append_assoc, lead, break_read, text_reads look x fit.0, stop_after, more)
-
--- ---- a variable's numbers
-
-first_lead : (look : Look) → Closed (number_lead look 0) []
-first_lead look = grind (arith, marks_closed)
-
-all_read : (look : Look) (before : List ℕ) (x : ℤ) (xs : List ℤ) → is_char look.ty ≡ false → (look.in_rows ≡ false → length (x ∷ xs) ≤ look.row) → AreSmall (x ∷ xs) →
-    Reads (pieces look before [] (x ∷ xs)) (value_lexeme look x ∷ commas (map (value_lexeme look) xs))
-unfolding number_piece
-all_read look before x xs h small fit rest stop =
-    let after = before ++ piece look before [] x in
-    let small2 : look.in_rows ≡ false → 1 + length xs ≤ look.row = λ e. let f = small e in omega (arith, f) in
-    let stop_after = more_stop look after (x ∷ []) xs h (omega arith) small2 rest stop in
-    let more = more_read look after (x ∷ []) xs h (omega arith) small2 fit.1 in
-    simp (pieces_first look before [] x xs h, append_assoc, first_lead look, break_read, text_reads look x fit.0, stop_after, more)
-
-pub numbers_closed : (look : Look) (x : ℤ) (xs : List ℤ) → IsName look.name → is_char look.ty ≡ false → (look.in_rows ≡ false → length (x ∷ xs) ≤ look.row) → AreSmall (x ∷ xs) →
-    Closed (variable_text look (x ∷ xs)) (word (escaped_name look.name) ∷ mark 61 ∷ value_lexeme look x ∷ commas (map (value_lexeme look) xs) ++ mark 59 ∷ [])
-unfolding variable_text variable_opening variable_closing concat_parts
-numbers_closed look x xs name h small fit rest =
-    simp (prefix_is look (x ∷ xs) (λ char some. absurd (false≢true (sym h ∙ char))), reading, h, all_read look (variable_opening look) x xs h small fit)
-
--- ---- what they say
-
-pub values_said : (v : Version) (look : Look) (x : ℤ) (xs : List ℤ) → AreSmall (x ∷ xs) → constants v true (value_lexeme look x ∷ commas (map (value_lexeme look) xs) ++ semicolon ∷ []) ≡ Some (map (value_said look) (x ∷ xs))
-values_said v look x xs fit = constants_say v true (value_lexeme look) (value_said look) (λ y. unsigned_abs y < 2 ^ 64)
-    (λ y h. grind (arith, constant, word, codes, number, value_again)) x xs fit
+    let next = values ++ x ∷ [] in
+    let len : length next ≡ suc (length values) = (let e = length-append values (x ∷ []) in omega (arith, e)) in
+    let small2 : look.in_rows ≡ false → length next + length (y ∷ ys) ≤ look.row = λ e. let f = small e in omega (arith, f, len) in
+    let lead = lead_read look (length values) (λ e. let f = small e in omega (arith, f)) in
+    let stop_after = more_stop look after next (y ∷ ys) h (omega (arith, len)) small2 rest stop in
+    let more = rw len at (all_read look after next y ys h small2 fit.1 rest stop) in
+    simp (pieces_first look before values x (y ∷ ys) h, append_assoc, lead, break_read, text_reads look x fit.0, stop_after, more)
 
 -- ---- what becomes of them
 
