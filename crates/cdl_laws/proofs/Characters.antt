@@ -1,5 +1,5 @@
 -- The strings of a variable of characters are read back, and what a row shows, filled up, is the row.
-use Rattle.cdl_laws.proofs.Prelude.{◌≡◌, ℕ, suc, ◌+◌, ◌*◌, ◌<◌, ◌≤◌, true, false, List, [], ◌∷◌, ◌++◌, length, map, sym, ◌∙◌, ap, refl, subst, arith, append_assoc, append-nil, length-append, ℤ, ◌==◌, codes, zero, ◌-◌, Bool, pos, unsigned_abs, replicate, Some, Ok, Option, flat_map, escaped_name, escaped_text, IsName, Look, is_char, char_lead, variable_opening, variable_closing, variable_text, Lexeme, Each, prefix_is, pieces_are, a_row, char_pieces, printed, map-append, length-replicate, replicate_more, Version, escaped_in_string, is_nul, string_value, stands_for, Characters, constants, Joined, Rows, filled, in_turn, le-leb, length-map, any_each, lexemes_at, concat_parts, add_value}
+use Rattle.cdl_laws.proofs.Prelude.{◌≡◌, ℕ, suc, ◌+◌, ◌*◌, ◌<◌, ◌≤◌, true, false, List, [], ◌∷◌, ◌++◌, length, map, sym, ◌∙◌, ap, refl, arith, append_assoc, append-nil, length-append, ℤ, ◌==◌, codes, zero, ◌-◌, Bool, pos, unsigned_abs, replicate, Some, Ok, Option, flat_map, escaped_name, escaped_text, IsName, Look, is_char, char_lead, variable_opening, variable_closing, variable_text, Lexeme, Each, prefix_is, pieces_are, a_row, char_pieces, printed, map-append, length-replicate, replicate_more, Version, escaped_in_string, is_nul, string_value, stands_for, Characters, constants, Joined, Rows, filled, in_turn, le-leb, length-map, any_each, lexemes_at, concat_parts, add_value}
 use Rattle.cdl_laws.proofs.Texts.{Closed, mark, marks_closed, word, reading}
 use Rattle.cdl_laws.proofs.Strings.{string, string_read, unescape_all, between_quotes}
 use Rattle.cdl_laws.proofs.ValueTexts.{commas, comma, semicolon, turn, constants_say, IsWithin}
@@ -21,9 +21,6 @@ strings_read gap between s (o ∷ os) rest = simp (append_assoc, string_read, be
 abbrev pub flat : List (List ℤ) → List ℤ
 flat rows = flat_map (λ (r : List ℤ). r) rows
 
-later_lead : (look : Look) (n : ℕ) → look.in_rows ≡ true → 0 < n → char_lead look n ≡ codes "\",\n  \""
-later_lead look n h some = let z : (n == 0) ≡ false = grind (arith, some) in rw (h) (rw (z) refl)
-
 -- the rows after others
 rows_text : (look : Look) (done : List ℤ) (k : ℕ) (rows : List (List ℤ)) → look.in_rows ≡ true → length done ≡ k * look.row →
     0 < length done → 0 < look.row → Each (λ (s : List ℤ). length s ≡ look.row) rows →
@@ -36,14 +33,11 @@ rows_text look done k ((x ∷ xs) ∷ rows) h len some wide all =
     let grown : length (done ++ s) ≡ (k + 1) * look.row = more ∙ ap (λ n. n + length s) len ∙ ap (λ n. k * look.row + n) row_len ∙ (let g : k * look.row + look.row ≡ (k + 1) * look.row = grind arith in g) in
     let row = a_row look done x xs (flat rows) k len (omega (arith, row_len)) in
     let others = rows_text look (done ++ s) (k + 1) rows h grown (omega (arith, more, some)) wide all.1 in
-    simp (row, later_lead look (length done) h some, others)
+    let lead : char_lead look (length done) ≡ codes "\",\n  \"" = (let z : (length done == 0) ≡ false = grind (arith, some) in rw (h) (rw (z) refl)) in
+    simp (row, lead, others)
 rows_text look done k _ h len some wide all = grind arith
 
 -- ---- a variable's characters
-
-char_variable : (look : Look) (values : List ℤ) → is_char look.ty ≡ true → (0 < length values → 0 < look.row) → variable_text look values ≡ variable_opening look ++ (char_pieces look [] values ++ codes "\" ;\n")
-unfolding variable_text variable_closing
-char_variable look values h wide = grind (arith, append_assoc, prefix_is, pieces_are)
 
 -- what all its strings are read as
 abbrev pub strings : Look → List ℤ → List (List ℤ) → List Lexeme
@@ -51,16 +45,15 @@ strings look r rows = word (escaped_name look.name) ∷ mark 61 ∷ string (prin
     (commas (map string (map (printed look.trimmed 0) rows)) ++ mark 59 ∷ [])
 
 -- a first row after this blank, and the others
-all_closed : (look : Look) (x : ℤ) (xs : List ℤ) (rows : List (List ℤ)) (blank : List ℕ) → IsName look.name → is_char look.ty ≡ true →
+pub all_closed : (look : Look) (x : ℤ) (xs : List ℤ) (rows : List (List ℤ)) (blank : List ℕ) → IsName look.name → is_char look.ty ≡ true →
     length (x ∷ xs) ≤ look.row → Closed blank [] → char_lead look 0 ≡ blank ++ 34 ∷ [] →
     char_pieces look (x ∷ xs) (flat rows) ≡ flat_map (later_string (codes ",\n  ")) (map (printed look.trimmed 0) rows) → Closed
     (variable_text look (flat ((x ∷ xs) ∷ rows))) (strings look (x ∷ xs) rows)
-unfolding variable_opening concat_parts
+unfolding variable_text variable_opening variable_closing concat_parts
 all_closed look x xs rows blank name ty small closed lead more rest =
     let wide : 0 < length (flat ((x ∷ xs) ∷ rows)) → 0 < look.row = λ some. let long : suc (length xs) ≤ look.row = small in omega (arith, long) in
-    let text = char_variable look (flat ((x ∷ xs) ∷ rows)) ty wide in
     let row = a_row look [] x xs (flat rows) 0 (omega arith) small in
-    simp (text, row, lead, more, closed, reading, strings_read (codes ",\n  ") (marks_closed (codes ",\n  ") refl))
+    simp (prefix_is look (flat ((x ∷ xs) ∷ rows)) (λ char. wide), pieces_are look (variable_opening look) [] (flat ((x ∷ xs) ∷ rows)) ty, row, lead, more, ty, closed, reading, strings_read (codes ",\n  ") (marks_closed (codes ",\n  ") refl))
 
 -- at rank 2 and up
 pub table_closed : (look : Look) (r : List ℤ) (rows : List (List ℤ)) → IsName look.name → is_char look.ty ≡ true → look.in_rows ≡ true → 0 < look.row → Each (λ (s : List ℤ). length s ≡ look.row) (r ∷ rows) →
@@ -70,14 +63,6 @@ table_closed look (x ∷ xs) rows name ty h wide all =
     let len : suc (length xs) ≡ look.row = all.0 in
     all_closed look x xs rows (codes "\n  ") name ty (omega (arith, len)) (marks_closed (codes "\n  ") refl) (rw (h) refl)
     (rows_text look (x ∷ xs) 1 rows h (let one : suc (length xs) ≡ 1 * look.row = omega (arith, len) in one) (omega arith) wide all.1)
-
--- at rank 0 and 1
-pub line_closed : (look : Look) (x : ℤ) (xs : List ℤ) → IsName look.name → is_char look.ty ≡ true → look.in_rows ≡ false → length (x ∷ xs) ≤ look.row →
-    Closed (variable_text look (x ∷ xs)) (strings look (x ∷ xs) [])
-unfolding char_pieces
-line_closed look x xs name ty h small =
-    subst (λ ys. Closed (variable_text look ys) (strings look (x ∷ xs) [])) (append-nil (x ∷ xs))
-    (all_closed look x xs [] (codes " ") name ty small (marks_closed (codes " ") refl) (rw (h) refl) refl)
 
 -- ---- rows that are filled up
 

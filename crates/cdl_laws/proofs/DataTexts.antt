@@ -1,7 +1,6 @@
 -- The data section of a dump, variable after variable.
-use Rattle.cdl_laws.proofs.Prelude.{◌≡◌, ℕ, ◌<◌, ◌≤◌, Bool, true, false, List, [], ◌∷◌, ◌++◌, length, map, sym, ◌∙◌, ap, refl, subst, ℤ, pos, if◌then◌else◌, Option, None, Some, Ok, arith, rules, DataText, printed, Att, Dim, Header, Var, Version, VariableValues, with_variable, fill_value, IsName, is_record_var, Look, is_char, variable_text, Values, trimmed_var, Value, Characters, Listed, State, Draft, Numbers, Joined, Rows, act, filled, has_number, Each, each_map, IsStatement, NcType, takes_of, room_of, values_listed}
-use Rattle.cdl_statements.specs.State as states
-use Rattle.cdl_laws.proofs.Readings.{AreSmall, value_said, numbers_listed, IsWithin, flat, table_closed, line_closed, IsCharacter, row_back, rows_listed, line_listed, back_whole, filled_whole, Takes, says_takes, takes_both, numbers_say, strings_say, no_draft, variable_is, state, draft_of}
+use Rattle.cdl_laws.proofs.Prelude.{◌≡◌, ℕ, Bool, true, false, List, ◌∷◌, ◌++◌, length, map, sym, ◌∙◌, ap, refl, ℤ, if◌then◌else◌, Option, None, Some, Ok, arith, rules, DataText, Att, Dim, Header, Var, Version, VariableValues, with_variable, fill_value, IsName, is_record_var, Look, variable_text, Values, trimmed_var, Value, Listed, State, Draft, act, filled, IsStatement, values_listed}
+use Rattle.cdl_laws.proofs.Readings.{filled_whole, Takes, says_takes, takes_both, no_draft, variable_is, state, draft_of}
 
 -- ---- one variable
 

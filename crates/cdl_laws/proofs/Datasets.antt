@@ -1,5 +1,5 @@
 -- A dataset that a text can declare is read back from its full dump.
-use Rattle.cdl_laws.proofs.Prelude.{◌≡◌, ℕ, ◌+◌, ◌*◌, ◌-◌, ◌/◌, ◌<◌, true, List, [], ◌∷◌, ◌++◌, map, ◌∙◌, ap, refl, arith, append_assoc, slice_index_or, ◌⊎◌, drop, sym, subst, KeepsFill, mul-add-div, div-eq_of_lt, Dataset, Dim, Header, Var, Version, values_in_dataset, AreArrays, IsName, numbers, slab_count, record_vars, trimmed_var, array_of, records_in, Draft, Each, list_all, record_size_of, padded_size, has_small_array, and_both, le-leb, AreDistinct, IsArray, Att, get_or-drop, drop-drop, variables_text, shown_data, Values, whole, has_values, look_of, map-map}
+use Rattle.cdl_laws.proofs.Prelude.{◌≡◌, ℕ, ◌+◌, ◌*◌, ◌-◌, ◌/◌, ◌<◌, true, List, [], ◌∷◌, ◌++◌, map, ◌∙◌, ap, refl, arith, append_assoc, slice_index_or, ◌⊎◌, drop, sym, subst, KeepsFill, mul-add-div, div-eq_of_lt, Dataset, Dim, Var, values_in_dataset, AreArrays, IsName, numbers, slab_count, record_vars, trimmed_var, array_of, records_in, Draft, Each, list_all, record_size_of, padded_size, has_small_array, and_both, le-leb, AreDistinct, Att, get_or-drop, drop-drop, variables_text, shown_data, Values, whole, has_values, look_of, map-map}
 use Rattle.cdl_laws.proofs.Given.{is_back}
 use Rattle.cdl_laws.proofs.Readings.{Takes, takes_nothing, state, draft_of}
 use Rattle.cdl_laws.proofs.Sayables.{AreFresh, fresh_more, draft_name, var_name}

@@ -1,7 +1,7 @@
 -- The opening, the section marks and the closing brace of a dump.
 use Rattle.cdl_laws.proofs.Prelude.{◌≡◌, ℕ, subst, None, ◌+◌, true, false, List, [], ◌∷◌, ◌++◌, length, map, ◌∙◌, ap, refl, arith, append_assoc, length-append, ◌==◌, Some, Ok, codes, rules, if◌then◌else◌, suc, false≢true, eqb-true, concat_parts, Att, Dim, Var, Version, escaped_name, is_reserved, name_of, is_plain, dim_line, dim_lines, dims_text, att_line, att_lines, var_lines, vars_text, gatts_text, dimensions_word, variables_word, global_word, IsName, Section, Globals, Dimensions, Variables, Values, Ended, scan, word_len, len_until, piece_read, empty, pieces_after, is_section, cut_lexemes, lexemes_at, lexemes, pieces_of, trimmed_att, Enter, shape, State, Draft, act, in_turn, globals, dimensions, variables, and_left, until_at_start, lt-ltb, not_none, IsStatement, map-id, DeclareDimensions, said_dim, add_dim, ◌>>=◌}
 use Rattle.cdl_tokens.specs.declared.token.TokenKind.TheVariants as kinds
-use Rattle.cdl_laws.proofs.Readings.{rest_of, marked, bare, begins, mark, word, prefix_again, some_name, marks_closed, turn, until_plain, Takes, says_takes, takes_both, takes_nothing, is_open, Speaks, state, AreNewDims, IsNewDim, AreNewAtts, atts_taken, global_says, dim_says, AreFit, IsFit, all_taken, var_taken, draft_of}
+use Rattle.cdl_laws.proofs.Readings.{rest_of, marked, bare, begins, mark, word, prefix_again, some_name, marks_closed, turn, until_plain, Takes, says_takes, takes_both, takes_nothing, is_open, state, AreNewDims, IsNewDim, AreNewAtts, atts_taken, global_says, dim_says, AreFit, IsFit, all_taken, var_taken, draft_of}
 use Rattle.cdl_laws.proofs.Acts as acts
 
 -- ---- section marks

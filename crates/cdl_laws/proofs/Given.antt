@@ -1,8 +1,9 @@
 -- The array of a variable is given back by the text of its values.
-use Rattle.cdl_laws.proofs.Prelude.{◌≡◌, ℕ, zero, suc, ◌*◌, ◌<◌, true, false, List, [], ◌∷◌, length, drop, take, map, sym, ◌∙◌, ap, refl, subst, arith, length-take, length-drop, ℤ, pos, ◌&&◌, ◌==◌, not, nat_lt, find, Some, rules, if◌then◌else◌, Option, int_eq, false≢true, Decides-int_eq, take-append-drop, Att, Dim, Header, Var, NcType, Version, fill_value, is_fill_att, value_count, IsArray, IsName, numbers, IsInRange, is_record_var, product, slab_lens, look_of, is_char, row_len, trimmed_att, trimmed_var, filled, array_of, and_left, is_off, is_on, look-type, Each, each_drop, each_map, each_take, slab_rows, has_values, listed_values, and_false, option_map, takes_of, Numbers, Joined, Rows, ◌≤◌, room_of, Characters, printed, Values, variable_text, IsStatement, Listed, Ok}
+use Rattle.cdl_laws.proofs.Prelude.{◌≡◌, ℕ, zero, suc, ◌*◌, ◌<◌, true, false, List, [], ◌∷◌, length, drop, take, map, sym, ◌∙◌, ap, refl, subst, arith, length-take, length-drop, ℤ, pos, ◌&&◌, ◌==◌, not, nat_lt, find, Some, rules, if◌then◌else◌, Option, int_eq, false≢true, Decides-int_eq, take-append-drop, Att, Dim, Header, Var, NcType, Version, fill_value, is_fill_att, value_count, IsArray, IsName, numbers, IsInRange, is_record_var, product, slab_lens, look_of, is_char, row_len, trimmed_att, trimmed_var, filled, array_of, and_left, is_off, is_on, Each, each_drop, each_map, each_take, slab_rows, has_values, listed_values, and_false, option_map, takes_of, Numbers, Joined, Rows, ◌≤◌, room_of, Characters, printed, Values, variable_text, IsStatement, Listed, Ok, char_pieces, append-nil, codes, Look}
 use Rattle.cdl_laws.proofs.Attributes.{AreNumbersOf, numbers_are, all_fit, all_small}
-use Rattle.cdl_laws.proofs.Readings.{flat, IsCharacter, IsWithin, value_said, numbers_say, numbers_listed, strings_say, line_closed, line_listed, table_closed, rows_listed, back_whole}
+use Rattle.cdl_laws.proofs.Readings.{flat, IsCharacter, IsWithin, value_said, numbers_say, numbers_listed, strings_say, all_closed, strings, marks_closed, line_listed, table_closed, rows_listed, back_whole}
 use Rattle.cdl_laws.proofs.Characters as characters
+use Rattle.cdl_laws.proofs.Texts.{Closed}
 use Rattle.cdl_laws.proofs.DataTexts.{Gives, gives_all, given_draft, IsGivenBy}
 
 -- ---- the fill value
@@ -16,66 +17,12 @@ pub same_fill : (var : Var) → is_char var.ty ≡ false → fill_value (trimmed
 unfolding fill_value
 same_fill var h = grind (arith, found_trimmed var.atts)
 
--- ---- rooms
-
-room_is : (h : Header) (var : Var) (n m : ℕ) → m ≡ value_count h.dims var n → IsWithin (room_of h.dims var) m
-room_is h var n m is = grind arith
-
-row_all : (h : Header) (var : Var) (n width : ℕ) → (look_of h var n width).in_rows ≡ false → (look_of h var n width).row ≡ value_count h.dims var n
-unfolding look_of
-row_all h var n width e = rw (is_on (nat_lt (length var.dimids) 2) e) refl
-
--- ---- numbers
-
-pub listed_numbers : (v : Version) (h : Header) (var : Var) (n width : ℕ) (xs : List ℤ) → 0 < length xs →
-    length xs ≡ value_count h.dims var n → Each (IsInRange var.ty) xs → is_char var.ty ≡ false → IsName var.name →
-    Gives v h.dims (look_of h var n width) var xs
-unfolding look_of takes_of
-listed_numbers v h var n width [] some len range other name = absurd (omega (arith, some))
-listed_numbers v h var n width (x ∷ xs) some len range other name =
-    let look = look_of h var n width in
-    let taken : takes_of h.dims (trimmed_var var) ≡ Numbers var.ty look.fill = grind (arith, same_fill var other, other) in
-    gives_all v h.dims look var (x ∷ xs) (map (value_said look) (x ∷ xs))
-    (numbers_say v look x xs name (ap is_char (look-type h var n width) ∙ other) (λ e. let r = row_all h var n width e in omega (arith, r, len)) (all_small var.ty (x ∷ xs) range))
-    (rw (taken) (numbers_listed look var.ty (room_of h.dims var) [] (x ∷ xs) (room_is h var n (length (x ∷ xs)) len) (all_fit var.ty (x ∷ xs) range)))
-
--- ---- characters at rank 0 and 1
+-- ---- characters
 
 are_characters : (ty : NcType) (xs : List ℤ) → is_char ty ≡ true → Each (IsInRange ty) xs → Each IsCharacter xs
 are_characters ty xs h h2 = grind (arith, each_map)
 
-trimmed_fill : (h : Header) (var : Var) (n width : ℕ) → (look_of h var n width).trimmed ≡ true → fill_value var ≡ pos 0
-unfolding look_of
-trimmed_fill h var n width e = (Decides-int_eq (fill_value var) (pos 0)).0 (and_left (int_eq (fill_value var) (pos 0)) (not (is_record_var h.dims var && (length var.dimids == 1))) e)
-
-line_takes : (h : Header) (var : Var) (n width : ℕ) → is_char var.ty ≡ true → (look_of h var n width).in_rows ≡ false → takes_of h.dims (trimmed_var var) ≡ Joined
-unfolding look_of takes_of
-line_takes h var n width char rank = grind (arith, char, rank)
-
--- a record variable of rank 1 isn't trimmed
-line_whole : (h : Header) (var : Var) (n width : ℕ) → (look_of h var n width).in_rows ≡ false → is_record_var h.dims var ≡ true → (look_of h var n width).trimmed ≡ false
-unfolding look_of
-line_whole h var n width rank is = grind (arith, and_false, false≢true, is_on)
-
-pub listed_line : (v : Version) (h : Header) (var : Var) (n width : ℕ) (xs : List ℤ) →
-    0 < length xs → length xs ≡ value_count h.dims var n → Each (IsInRange var.ty) xs → is_char var.ty ≡ true → IsName var.name →
-    fill_value (trimmed_var var) ≡ fill_value var → (look_of h var n width).in_rows ≡ false → Gives v h.dims (look_of h var n width) var xs
-unfolding look_of
-listed_line v h var n width [] some len range char name fill rank = absurd (omega (arith, some))
-listed_line v h var n width (x ∷ xs) some len range char name fill rank =
-    let look = look_of h var n width in
-    let all = are_characters var.ty (x ∷ xs) char range in
-    let small : length (x ∷ xs) ≤ look.row = (let r = row_all h var n width rank in omega (arith, r, len)) in
-    record {
-      said = Characters (printed look.trimmed 0 (x ∷ xs)) ∷ [];
-      says = strings_say v look (variable_text look (x ∷ xs)) (x ∷ xs) [] name (line_closed look x xs name (ap is_char (look-type h var n width) ∙ char) rank small);
-      listed = map pos (printed look.trimmed 0 (x ∷ xs));
-      added = rw (line_takes h var n width char rank) (line_listed (room_of h.dims var) look.trimmed (x ∷ xs) (room_is h var n (length (x ∷ xs)) len));
-      full = characters.row_back look.trimmed (length (x ∷ xs)) (fill_value (trimmed_var var)) (x ∷ xs) (λ t. fill ∙ trimmed_fill h var n width t) refl all;
-      exact = λ e. ap (λ t. map pos (printed t 0 (x ∷ xs))) (line_whole h var n width rank e) ∙ back_whole (x ∷ xs) all;
-    }
-
--- ---- characters at rank 2 and up
+-- ---- rows of characters
 
 rows_of : ℕ → ℕ → List ℤ → List (List ℤ)
 rows_of zero row xs = []
@@ -91,29 +38,6 @@ rows_are : (k row : ℕ) (xs : List ℤ) → length xs ≡ k * row → Each IsCh
 unfolding rows_of
 rows_are zero row xs h all = tt
 rows_are (suc k) row xs h all = grind (arith, length-take, each_take, length-drop, each_drop, rows_are k row (drop row xs))
-
-table_takes : (h : Header) (var : Var) (n width : ℕ) → is_char var.ty ≡ true → (look_of h var n width).in_rows ≡ true → fill_value (trimmed_var var) ≡ fill_value var →
-    takes_of h.dims (trimmed_var var) ≡ Rows (look_of h var n width).row (look_of h var n width).fill
-unfolding look_of takes_of
-table_takes h var n width char rank fill = grind (arith, char, rank, fill)
-
-pub listed_table : (v : Version) (h : Header) (var : Var) (n width k : ℕ) (xs : List ℤ) →
-    length xs ≡ suc k * (look_of h var n width).row → 0 < (look_of h var n width).row → length xs ≡ value_count h.dims var n →
-    Each (IsInRange var.ty) xs → is_char var.ty ≡ true → IsName var.name →
-    fill_value (trimmed_var var) ≡ fill_value var → (look_of h var n width).in_rows ≡ true → Gives v h.dims (look_of h var n width) var xs
-unfolding rows_of look_of
-listed_table v h var n width k xs split some len range char name fill rank =
-    let look = look_of h var n width in
-    let r = take look.row xs in
-    let rows = rows_of k look.row (drop look.row xs) in
-    let said = map Characters (map (printed look.trimmed 0) (r ∷ rows)) in
-    let same : flat (r ∷ rows) ≡ xs = flat_rows (suc k) look.row xs split in
-    let all = rows_are (suc k) look.row xs split (are_characters var.ty xs char range) in
-    let lens = each_map (λ (s : List ℤ). (length s ≡ look.row) × Each IsCharacter s) (λ (s : List ℤ). length s ≡ look.row) (r ∷ rows) (λ s p. p.0) all in
-    let room = room_is h var n (length (flat (r ∷ rows))) (ap (λ (ys : List ℤ). length ys) same ∙ len) in
-    gives_all v h.dims look var xs said
-    (subst (λ ys. IsStatement v Values (variable_text look ys) (Listed var.name said)) same (strings_say v look (variable_text look (flat (r ∷ rows))) r rows name (table_closed look r rows name (ap is_char (look-type h var n width) ∙ char) rank some lens)))
-    (rw (table_takes h var n width char rank fill) (rows_listed look.row look.fill (room_of h.dims var) look.trimmed [] (r ∷ rows) (trimmed_fill h var n width) room all ∙ ap Ok same))
 
 -- ---- arrays
 
@@ -141,6 +65,60 @@ table_rows dims ids total m rank e some =
 
 -- ---- any variable
 
+-- values of a variable, as many as it has and all in the range of its type, are given back by their text
+gives : (v : Version) (h : Header) (n width : ℕ) (var : Var) (xs : List ℤ) → length xs ≡ value_count h.dims var n → 0 < value_count h.dims var n → Each (IsInRange var.ty) xs → IsName var.name →
+    (is_char var.ty ≡ true → fill_value (trimmed_var var) ≡ fill_value var) → Gives v h.dims (look_of h var n width) var xs
+unfolding look_of takes_of rows_of char_pieces
+gives v h n width var [] len count range name fill = absurd (omega (arith, len, count))
+gives v h n width var (x ∷ xs) len count range name fill =
+    elim (is_char var.ty) as (λ c. is_char var.ty ≡ c → Gives v h.dims look var (x ∷ xs)) [
+      | true ↦ (λ char. elim (look.in_rows) as (λ r. look.in_rows ≡ r → Gives v h.dims look var (x ∷ xs)) [ true ↦ table char | false ↦ line char ] refl)
+      | false ↦ numbers
+    ] refl
+  where
+    look : Look
+    look = look_of h var n width
+    room : IsWithin (room_of h.dims var) (length (x ∷ xs))
+    room = grind arith
+    one_row : look.in_rows ≡ false → length (x ∷ xs) ≤ look.row
+    one_row e = let r : look.row ≡ value_count h.dims var n = rw (is_on (nat_lt (length var.dimids) 2) e) refl in omega (arith, r, len)
+    trims : look.trimmed ≡ true → fill_value var ≡ pos 0
+    trims e = (Decides-int_eq (fill_value var) (pos 0)).0 (and_left (int_eq (fill_value var) (pos 0)) (not (is_record_var h.dims var && (length var.dimids == 1))) e)
+    numbers : is_char var.ty ≡ false → Gives v h.dims look var (x ∷ xs)
+    numbers other =
+        let taken : takes_of h.dims (trimmed_var var) ≡ Numbers var.ty look.fill = grind (arith, same_fill var other, other) in
+        gives_all v h.dims look var (x ∷ xs) (map (value_said look) (x ∷ xs)) (numbers_say v look x xs name other one_row (all_small var.ty (x ∷ xs) range))
+        (rw (taken) (numbers_listed look var.ty (room_of h.dims var) [] (x ∷ xs) room (all_fit var.ty (x ∷ xs) range)))
+    -- a record variable of rank 1 isn't trimmed
+    line : is_char var.ty ≡ true → look.in_rows ≡ false → Gives v h.dims look var (x ∷ xs)
+    line char rank =
+        let all = are_characters var.ty (x ∷ xs) char range in
+        let taken : takes_of h.dims (trimmed_var var) ≡ Joined = grind (arith, char, rank) in
+        let untrimmed : is_record_var h.dims var ≡ true → look.trimmed ≡ false = λ e. grind (arith, and_false, false≢true, is_on) in
+        let closed = all_closed look x xs [] (codes " ") name char (one_row rank) (marks_closed (codes " ") refl) (rw (rank) refl) refl in
+        record {
+          said = Characters (printed look.trimmed 0 (x ∷ xs)) ∷ [];
+          says = strings_say v look (variable_text look (x ∷ xs)) (x ∷ xs) [] name (subst (λ ys. Closed (variable_text look ys) (strings look (x ∷ xs) [])) (append-nil (x ∷ xs)) closed);
+          listed = map pos (printed look.trimmed 0 (x ∷ xs));
+          added = rw (taken) (line_listed (room_of h.dims var) look.trimmed (x ∷ xs) room);
+          full = characters.row_back look.trimmed (length (x ∷ xs)) (fill_value (trimmed_var var)) (x ∷ xs) (λ t. fill char ∙ trims t) refl all;
+          exact = λ e. ap (λ t. map pos (printed t 0 (x ∷ xs))) (untrimmed e) ∙ back_whole (x ∷ xs) all;
+        }
+    table : is_char var.ty ≡ true → look.in_rows ≡ true → Gives v h.dims look var (x ∷ xs)
+    table char rank =
+        let some = table_rows h.dims var.dimids (value_count h.dims var n) (if is_record_var h.dims var then n else 1) rank refl count in
+        let split : length (x ∷ xs) ≡ suc some.0 * look.row = len ∙ some.1 in
+        let r = take look.row (x ∷ xs) in
+        let rows = rows_of some.0 look.row (drop look.row (x ∷ xs)) in
+        let said = map Characters (map (printed look.trimmed 0) (r ∷ rows)) in
+        let same : flat (r ∷ rows) ≡ x ∷ xs = flat_rows (suc some.0) look.row (x ∷ xs) split in
+        let all = rows_are (suc some.0) look.row (x ∷ xs) split (are_characters var.ty (x ∷ xs) char range) in
+        let lens = each_map (λ (s : List ℤ). (length s ≡ look.row) × Each IsCharacter s) (λ (s : List ℤ). length s ≡ look.row) (r ∷ rows) (λ s p. p.0) all in
+        let taken : takes_of h.dims (trimmed_var var) ≡ Rows look.row look.fill = (let f = fill char in grind (arith, char, rank, f)) in
+        gives_all v h.dims look var (x ∷ xs) said
+        (subst (λ ys. IsStatement v Values (variable_text look ys) (Listed var.name said)) same (strings_say v look (variable_text look (flat (r ∷ rows))) r rows name (table_closed look r rows name char rank some.2 lens)))
+        (rw (taken) (rows_listed look.row look.fill (room_of h.dims var) look.trimmed [] (r ∷ rows) trims (rw (same) room) all ∙ ap Ok same))
+
 -- the text of its values, if it has any, gives back its array
 pub record IsBack (v : Version) (h : Header) (n width : ℕ) (var : Var) (array : List ℕ) : Type 0 where
   pub o : Option (List ℤ)
@@ -153,23 +131,8 @@ pub row_back : (v : Version) (h : Header) (n width : ℕ) (var : Var) (array : L
     (g : Gives v h.dims (look_of h var n width) var (numbers var.ty array)) × (array_of h.dims n (given_draft var (Some g.listed)) ≡ array)
 unfolding look_of
 row_back v h n width var array is count name fill =
-    let look = look_of h var n width in
-    let xs = numbers var.ty array in
-    let gives = array_gives h.dims n var array is in
-    let len = gives.2 in
-    let range = gives.1 in
-    let some : 0 < length xs = omega (arith, len, count) in
-    let g : Gives v h.dims look var xs = elim (is_char var.ty) as (λ c. is_char var.ty ≡ c → Gives v h.dims look var xs) [
-      | true ↦ (λ char. elim (look.in_rows) as (λ r. look.in_rows ≡ r → Gives v h.dims look var xs) [
-        | true ↦ (λ rank.
-            let rows = table_rows h.dims var.dimids (value_count h.dims var n)
-            (if is_record_var h.dims var then n else 1) rank refl count in
-            listed_table v h var n width rows.0 xs (len ∙ rows.1) rows.2 len range char name (fill char) rank)
-        | false ↦ (λ rank. listed_line v h var n width xs some len range char name (fill char) rank)
-      ] refl)
-      | false ↦ (λ other. listed_numbers v h var n width xs some len range other name)
-    ] refl in
-    (g, search (rules, filled, gives.0))
+    let are = array_gives h.dims n var array is in
+    (gives v h n width var (numbers var.ty array) are.2 count are.1 name fill, search (rules, filled, are.0))
 
 pub no_bytes : (array : List ℕ) (m size : ℕ) → length array ≡ m * size → m ≡ 0 → array ≡ []
 no_bytes [] m size h z = refl

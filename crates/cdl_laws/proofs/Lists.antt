@@ -2,7 +2,6 @@
 use Rattle.std.proofs.Common.{ℕ, List, [], ◌∷◌, arith, ◌++◌, ◌≡◌, Bool, true, false, ◌||◌, length, refl, map}
 use Rattle.std.specs.List.{list_all, prefix_len}
 use Rattle.nc_base.proofs.Tests.{and_left, and_right}
-use Rattle.cdl_statements.proofs.Each.{Each}
 
 pub or_left : (a b : Bool) → (a || b) ≡ false → a ≡ false
 or_left a b h = grind arith

@@ -1,6 +1,6 @@
 -- What the laws cite of how the parts of a text are read, passed on from one place.
 pub use Rattle.cdl_laws.proofs.Acts.{no_draft, AreDistinctDims, HaveNames, record_once, is_new_att, variable_is, numbers_added, chars_added}
-pub use Rattle.cdl_laws.proofs.Characters.{flat, table_closed, line_closed, IsCharacter, row_back, rows_listed, line_listed, back_whole, filled_whole, strings_said}
+pub use Rattle.cdl_laws.proofs.Characters.{flat, strings, table_closed, all_closed, IsCharacter, row_back, rows_listed, line_listed, back_whole, filled_whole, strings_said}
 pub use Rattle.cdl_laws.proofs.Declarations.{Speaks, broken_read, numbers_said, suffixed, first, others, all_bytes, dim_says, global_says, owned_says}
 pub use Rattle.cdl_laws.proofs.Heads.{numbers_say, strings_say, joined_reads, strings_fine, opens_none}
 pub use Rattle.cdl_laws.proofs.Lines.{pieces_are, run_is, lexemes_are}

@@ -1,6 +1,6 @@
 -- What a dataset that a text can declare gives for each of its parts.
-use Rattle.cdl_laws.proofs.Prelude.{◌≡◌, ℕ, ◌+◌, ◌^◌, ◌<◌, ◌≤◌, Bool, true, false, List, [], ◌∷◌, ◌++◌, length, map, sym, ◌∙◌, ap, refl, subst, arith, append_assoc, ◌||◌, ◌==◌, All, filter, rules, list_any, bytes_eq, false≢true, map-append, list_any-append, bytes_eq-Decides, AreBytes, Att, Dim, Var, Version, has_name, has_record_dim, IsSoundAtt, IsSoundVar, IsSoundDim, IsName, count_limit, AreDistinct, IsSayableVar, HasSomeNumber, trimmed_att, Draft, Each, each_of, EachAfter, any_each, or_left, or_right}
-use Rattle.cdl_laws.proofs.Readings.{record_once, no_draft, is_new_att, Speaks, AreNewDims, AreNewAtts, IsFit}
+use Rattle.cdl_laws.proofs.Prelude.{◌≡◌, ℕ, ◌+◌, ◌^◌, ◌<◌, ◌≤◌, Bool, true, false, List, [], ◌∷◌, ◌++◌, length, map, ap, refl, arith, append_assoc, ◌||◌, ◌==◌, All, filter, rules, list_any, bytes_eq, false≢true, list_any-append, bytes_eq-Decides, AreBytes, Att, Dim, Var, Version, has_name, has_record_dim, IsSoundAtt, IsSoundDim, IsName, count_limit, AreDistinct, HasSomeNumber, trimmed_att, Draft, Each, each_of, EachAfter, or_left, or_right}
+use Rattle.cdl_laws.proofs.Readings.{record_once, is_new_att, Speaks, AreNewDims, AreNewAtts}
 use Rattle.cdl_laws.proofs.Attributes.{speaks}
 
 -- ---- names

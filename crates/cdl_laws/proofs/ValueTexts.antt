@@ -1,7 +1,7 @@
 -- The listed numbers of a variable are read back, wherever the breaks are.
-use Rattle.cdl_laws.proofs.Prelude.{◌≡◌, ℕ, zero, suc, ◌+◌, ◌^◌, ◌<◌, ◌≤◌, Bool, true, false, List, [], ◌∷◌, ◌++◌, length, map, sym, ◌∙◌, ap, refl, arith, append_assoc, append-nil, length-append, ℤ, unsigned_abs, ◌&&◌, if◌then◌else◌, Some, Result, Ok, codes, ◌⊎◌, Option, None, signed_decimal, flat_map, int_eq, mod-eq_of_lt, false≢true, concat_parts, escaped_name, Int, Version, IsName, Look, is_char, number_text, number_lead, number_piece, piece, pieces, variable_opening, variable_closing, variable_text, prefix_is, CdlKind, Lexeme, Value, Number, Underscore, both, constant, constants, Numbers, has_number, in_turn, word_at_start, Each, NcType, add_value, le-leb}
-use Rattle.cdl_laws.proofs.Texts.{Closed, Reads, stops, mark, word, number, word_reads, stop_word, marks_closed, number_reads, reading}
-use Rattle.cdl_laws.proofs.Numerals.{value_again, value_is}
+use Rattle.cdl_laws.proofs.Prelude.{◌≡◌, ℕ, zero, suc, ◌+◌, ◌^◌, ◌<◌, ◌≤◌, Bool, true, false, List, [], ◌∷◌, ◌++◌, length, map, sym, ◌∙◌, ap, refl, arith, append_assoc, append-nil, length-append, ℤ, unsigned_abs, ◌&&◌, if◌then◌else◌, Some, Result, Ok, codes, ◌⊎◌, Option, None, signed_decimal, flat_map, int_eq, mod-eq_of_lt, false≢true, Int, Version, Look, is_char, number_text, number_lead, number_piece, piece, pieces, CdlKind, Lexeme, Value, Number, Underscore, both, constant, constants, Numbers, has_number, in_turn, word_at_start, Each, NcType, add_value, le-leb}
+use Rattle.cdl_laws.proofs.Texts.{Closed, Reads, stops, mark, word, number, word_reads, stop_word, marks_closed, number_reads}
+use Rattle.cdl_laws.proofs.Numerals.{value_is}
 
 -- one turn
 pub turn : {S A : Type 0} (f : S → A → Result S CdlKind) (s t : S) (x : A) (xs : List A) → f s x ≡ Ok t → in_turn f s (x ∷ xs) ≡ in_turn f t xs
