@@ -1,5 +1,5 @@
 -- The data section of a dump, variable after variable.
-use Rattle.cdl_laws.proofs.Prelude.{◌≡◌, ℕ, Bool, true, false, List, ◌∷◌, ◌++◌, length, map, sym, ◌∙◌, ap, refl, ℤ, if◌then◌else◌, Option, None, Some, Ok, arith, rules, DataText, Att, Dim, Header, Var, Version, VariableValues, with_variable, fill_value, IsName, is_record_var, Look, variable_text, Values, trimmed_var, Value, Listed, State, Draft, act, filled, IsStatement, values_listed}
+use Rattle.cdl_laws.proofs.Prelude.{is_some, option_map, ◌≡◌, ℕ, Bool, true, false, List, ◌∷◌, ◌++◌, length, map, sym, ◌∙◌, ap, refl, ℤ, if◌then◌else◌, Option, None, Some, Ok, arith, rules, DataText, Att, Dim, Header, Var, Version, VariableValues, with_variable, fill_value, IsName, is_record_var, Look, variable_text, Values, trimmed_var, Value, Listed, State, Draft, act, filled, IsStatement, values_listed}
 use Rattle.cdl_laws.proofs.Readings.{filled_whole, Takes, says_takes, takes_both, no_draft, variable_is, state, draft_of}
 
 -- ---- one variable
@@ -24,23 +24,17 @@ gives_all v dims look var xs said says added =
 abbrev pub given_draft : Var → Option (List ℤ) → Draft
 given_draft var o = record { var = trimmed_var var; listed = o }
 
--- a variable that has values has them listed
-abbrev pub IsGivenBy : Bool → Version → List Dim → Look → Var → List ℤ → Option (List ℤ) → Type 0
-IsGivenBy true v dims look var values o = (g : Gives v dims look var values) × (o ≡ Some g.listed)
-IsGivenBy false v dims look var values o = o ≡ None
-
 abbrev pub all_marked : List Var → List Bool
 all_marked vars = map (λ (w : Var). true) vars
 
--- one variable before others
-pub one_taken : (v : Version) (h : Header) (gatts : List Att) (before after : List Draft) (look : Look) (var : Var) (c : VariableValues) (o : Option (List ℤ)) (place : ℕ) (others : DataText) (t : State) (b : Bool) →
-    IsName var.name → no_draft var.name before → c.missing ≡ None → IsGivenBy b v h.dims look var c.values o →
-    Takes v others.text (state Values h.dims gatts (before ++ given_draft var o ∷ after)) t →
+-- one variable before others: its text gives back its values, if it has any
+pub one_taken : (v : Version) (h : Header) (gatts : List Att) (before after : List Draft) (look : Look) (var : Var) (c : VariableValues) (o : Option (Gives v h.dims look var c.values)) (place : ℕ) (others : DataText) (t : State) (b : Bool) →
+    IsName var.name → no_draft var.name before → c.missing ≡ None → is_some o ≡ b →
+    Takes v others.text (state Values h.dims gatts (before ++ given_draft var (option_map (λ g. g.listed) o) ∷ after)) t →
     Takes v (if b then with_variable look c.values c.missing place others else others).text (state Values h.dims gatts (before ++ draft_of var ∷ after)) t
 unfolding act
-one_taken v h gatts before after look var c o place others t true valid new all given more =
-    rw (all) (takes_both v (variable_text look c.values) others.text (state Values h.dims gatts (before ++ draft_of var ∷ after)) (state Values h.dims gatts (before ++ given_draft var o ∷ after)) t
-    (says_takes v (variable_text look c.values) (Listed var.name given.0.said) (state Values h.dims gatts (before ++ draft_of var ∷ after)) (state Values h.dims gatts (before ++ given_draft var o ∷ after)) given.0.says
-    ((grind (arith, variable_is)) ∙ ap (λ p. Ok (state Values h.dims gatts (before ++ given_draft var p ∷ after))) (sym given.1)))
-    more)
-one_taken v h gatts before after look var c o place others t false valid new all given more = search rules
+one_taken v h gatts before after look var c None place others t b valid new all shown more = rw (sym shown) more
+one_taken v h gatts before after look var c (Some g) place others t b valid new all shown more =
+    let s = state Values h.dims gatts (before ++ draft_of var ∷ after) in
+    let u = state Values h.dims gatts (before ++ given_draft var (Some g.listed) ∷ after) in
+    rw (sym shown, all) (takes_both v (variable_text look c.values) others.text s u t (says_takes v (variable_text look c.values) (Listed var.name g.said) s u g.says (grind (arith, variable_is))) more)

@@ -1,9 +1,9 @@
 -- A dataset that a text can declare is read back from its full dump.
-use Rattle.cdl_laws.proofs.Prelude.{◌≡◌, ℕ, ◌+◌, ◌*◌, ◌-◌, ◌/◌, ◌<◌, true, List, [], ◌∷◌, ◌++◌, map, ◌∙◌, ap, refl, arith, append_assoc, slice_index_or, ◌⊎◌, drop, sym, subst, KeepsFill, mul-add-div, div-eq_of_lt, Dataset, Dim, Var, values_in_dataset, AreArrays, IsName, numbers, slab_count, record_vars, trimmed_var, array_of, records_in, Draft, Each, list_all, record_size_of, padded_size, has_small_array, and_both, le-leb, AreDistinct, Att, get_or-drop, drop-drop, variables_text, shown_data, Values, whole, has_values, look_of, map-map}
+use Rattle.cdl_laws.proofs.Prelude.{IsArray, option_map, ◌≡◌, ℕ, ◌+◌, ◌*◌, ◌-◌, ◌/◌, ◌<◌, true, List, [], ◌∷◌, ◌++◌, map, ◌∙◌, ap, refl, arith, append_assoc, slice_index_or, ◌⊎◌, drop, sym, subst, KeepsFill, mul-add-div, div-eq_of_lt, Dataset, Dim, Var, values_in_dataset, AreArrays, IsName, numbers, slab_count, record_vars, trimmed_var, array_of, records_in, Draft, Each, list_all, record_size_of, padded_size, has_small_array, and_both, le-leb, AreDistinct, Att, get_or-drop, drop-drop, variables_text, shown_data, Values, whole, has_values, look_of, map-map}
 use Rattle.cdl_laws.proofs.Given.{is_back}
 use Rattle.cdl_laws.proofs.Readings.{Takes, takes_nothing, state, draft_of}
 use Rattle.cdl_laws.proofs.Sayables.{AreFresh, fresh_more, draft_name, var_name}
-use Rattle.cdl_laws.proofs.DataTexts.{given_draft, IsGivenBy, all_marked, one_taken}
+use Rattle.cdl_laws.proofs.DataTexts.{given_draft, all_marked, one_taken}
 
 -- ---- the data section
 
@@ -28,19 +28,18 @@ are_back d n width place [] [] at are all =
     record { drafts = []; vars_are = refl; arrays_are = refl; small = refl; records = grind arith; taken = λ gatts before fresh distinct. takes_nothing d.header.version _ }
 are_back d n width place (var ∷ vars) (a ∷ arrays) at are all =
     let h = d.header in
-    let look = look_of h var n width in
-    let b = is_back h.version h n width var a are.0 all.0.0 all.0.1 in
+    let array = slice_index_or d.arrays place [] in
+    let here : array ≡ a = grind (arith, get_or-drop place d.arrays 0 [], ap (λ xs. slice_index_or xs 0 []) at) in
+    let b = is_back h.version h n width var array (subst (IsArray h.dims n var) (sym here) are.0) all.0.0 all.0.1 in
     let others = are_back d n width (place + 1) vars arrays (sym (drop-drop 1 place d.arrays) ∙ ap (drop 1) at) are.1 all.1 in
-    let here : slice_index_or d.arrays place [] ≡ a = grind (arith, get_or-drop place d.arrays 0 [], ap (λ xs. slice_index_or xs 0 []) at) in
-    let draft = given_draft var b.o in
+    let draft = given_draft var (option_map (λ g. g.listed) b.o) in
     record {
       drafts = draft ∷ others.drafts;
       vars_are = ap (λ vs. trimmed_var var ∷ vs) others.vars_are;
-      arrays_are = cc (b.back, others.arrays_are);
+      arrays_are = cc (b.back, here, others.arrays_are);
       small = grind (arith, and_both, le-leb, others.small, are.0.small, are.0.whole);
       records = grind (arith, counted, others.records, b.exact, all.0.2);
-      taken = λ gatts before fresh distinct. one_taken h.version h gatts before _ look var (values_in_dataset d place var) b.o place _ _ (has_values h.dims n var) all.0.0 fresh.0 refl
-          (subst (λ xs. IsGivenBy (has_values h.dims n var) h.version h.dims look var (numbers var.ty xs) b.o) (sym here) b.given)
+      taken = λ gatts before fresh distinct. one_taken h.version h gatts before _ (look_of h var n width) var (values_in_dataset d place var) b.o place _ _ (has_values h.dims n var) all.0.0 fresh.0 refl b.shown
           (simp append_assoc at (others.taken gatts (before ++ draft ∷ []) (fresh_more draft_name before draft (map var_name vars) fresh.1 distinct.0) distinct.1));
     }
 are_back d n width place _ _ at are all = absurd are

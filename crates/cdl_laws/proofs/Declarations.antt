@@ -143,17 +143,13 @@ names_fine v (n ∷ ns) =
 
 -- ---- a declaration
 
-parens_read : (inner : List ℕ) (ls : List Lexeme) → Reads inner ls → Closed (40 ∷ (inner ++ 41 ∷ [])) (mark 40 ∷ (ls ++ mark 41 ∷ []))
-parens_read inner ls read rest = simp (append_assoc, mark_read, read)
-
 shape_closed : (dims : List Dim) (ids : List ℕ) (names : List (List ℕ)) → map (dim_name dims) ids ≡ map escaped_name names → AreNames names →
     Closed (shape_text dims ids) (shape_lexemes names)
 unfolding shape_text concat_parts
 shape_closed dims [] [] same all rest = refl
 shape_closed dims (k ∷ ids) (n ∷ ns) same all rest =
     rw (not_none (length ids)) (subst (λ ms. lexemes_at false 0 ((40 ∷ (joined ms ++ 41 ∷ [])) ++ rest) ≡ (shape_lexemes (n ∷ ns)) ++ lexemes_at false 0 rest) (sym same)
-    (parens_read (joined (map escaped_name (n ∷ ns))) (word (escaped_name n) ∷ commas (name_lexemes ns))
-    (joined_reads escaped_name (λ m. word (escaped_name m)) n ns (each_map IsName (λ m. Reads (escaped_name m) (word (escaped_name m) ∷ [])) (n ∷ ns) (λ m valid. (name_word m valid).reads) all)) rest))
+    (simp (append_assoc, mark_read, joined_reads escaped_name (λ m. word (escaped_name m)) n ns (each_map IsName (λ m. Reads (escaped_name m) (word (escaped_name m) ∷ [])) (n ∷ ns) (λ m valid. (name_word m valid).reads) all))))
 shape_closed dims _ _ same all rest = absurd (cc)
 
 shape_stops : (dims : List Dim) (ids rest : List ℕ) → stops (shape_text dims ids ++ 32 ∷ rest) ≡ true

@@ -31,16 +31,9 @@ record ArePart (ty : NcType) (vals : List ℕ) : Type 0 where
   bytes : Each IsByte vals
   some : is_char ty ≡ false → 0 < length vals
 
-number_part : (ty : NcType) (vals : List ℕ) (n : ℤ) → Each IsByte vals → ArePart ty (vals ++ bytes_of_number ty n)
-number_part ty vals n bytes =
-    let len = length-append vals (bytes_of_number ty n) in
-    let number = length-number ty n in
-    let some = some_size ty in
-    record { bytes = each_more IsByte vals (bytes_of_number ty n) bytes (number_bytes ty n); some = λ e. omega (arith, len, number, some) }
-
 constant_step : (ty : NcType) (vals : List ℕ) (x : Value) → Each IsByte vals → IsFineValue x → OkIs (ArePart ty) (add_constant ty vals x)
 constant_step ty vals Underscore bytes fine = tt
-constant_step ty vals (Number n) bytes fine = grind (arith, ok_unless, number_part)
+constant_step ty vals (Number n) bytes fine = grind (arith, ok_unless, each_more, number_bytes, length-append, length-number ty n.value, some_size ty)
 constant_step ty vals (Characters more) bytes fine = grind (arith, ok_unless, each_more)
 
 -- an attribute of numbers has a first one

@@ -1,10 +1,10 @@
 -- The array of a variable is given back by the text of its values.
-use Rattle.cdl_laws.proofs.Prelude.{◌≡◌, ℕ, zero, suc, ◌*◌, ◌<◌, true, false, List, [], ◌∷◌, length, drop, take, map, sym, ◌∙◌, ap, refl, subst, arith, length-take, length-drop, ℤ, pos, ◌&&◌, ◌==◌, not, nat_lt, find, Some, rules, if◌then◌else◌, Option, int_eq, false≢true, Decides-int_eq, take-append-drop, Att, Dim, Header, Var, NcType, Version, fill_value, is_fill_att, value_count, IsArray, IsName, numbers, IsInRange, is_record_var, product, slab_lens, look_of, is_char, row_len, trimmed_att, trimmed_var, filled, array_of, and_left, is_off, is_on, Each, each_drop, each_map, each_take, slab_rows, has_values, listed_values, and_false, option_map, takes_of, Numbers, Joined, Rows, ◌≤◌, room_of, Characters, printed, Values, variable_text, IsStatement, Listed, Ok, char_pieces, append-nil, codes, Look}
+use Rattle.cdl_laws.proofs.Prelude.{is_some, ◌≡◌, ℕ, zero, suc, ◌*◌, ◌<◌, true, false, List, [], ◌∷◌, length, drop, take, map, sym, ◌∙◌, ap, refl, subst, arith, length-take, length-drop, ℤ, pos, ◌&&◌, ◌==◌, not, nat_lt, find, Some, rules, if◌then◌else◌, Option, int_eq, false≢true, Decides-int_eq, take-append-drop, Att, Dim, Header, Var, NcType, Version, fill_value, is_fill_att, value_count, IsArray, IsName, numbers, IsInRange, is_record_var, product, slab_lens, look_of, is_char, row_len, trimmed_att, trimmed_var, filled, array_of, and_left, is_off, is_on, Each, each_drop, each_map, each_take, slab_rows, has_values, listed_values, and_false, option_map, takes_of, Numbers, Joined, Rows, ◌≤◌, room_of, Characters, printed, Values, variable_text, IsStatement, Listed, Ok, char_pieces, append-nil, codes, Look}
 use Rattle.cdl_laws.proofs.Attributes.{AreNumbersOf, numbers_are, all_fit, all_small}
 use Rattle.cdl_laws.proofs.Readings.{flat, IsCharacter, IsWithin, value_said, numbers_say, numbers_listed, strings_say, all_closed, strings, marks_closed, line_listed, table_closed, rows_listed, back_whole}
 use Rattle.cdl_laws.proofs.Characters as characters
 use Rattle.cdl_laws.proofs.Texts.{Closed}
-use Rattle.cdl_laws.proofs.DataTexts.{Gives, gives_all, given_draft, IsGivenBy}
+use Rattle.cdl_laws.proofs.DataTexts.{Gives, gives_all, given_draft}
 
 -- ---- the fill value
 
@@ -121,10 +121,10 @@ gives v h n width var (x ∷ xs) len count range name fill =
 
 -- the text of its values, if it has any, gives back its array
 pub record IsBack (v : Version) (h : Header) (n width : ℕ) (var : Var) (array : List ℕ) : Type 0 where
-  pub o : Option (List ℤ)
-  pub given : IsGivenBy (has_values h.dims n var) v h.dims (look_of h var n width) var (numbers var.ty array) o
-  pub back : array_of h.dims n (given_draft var o) ≡ array
-  pub exact : is_record_var h.dims var ≡ true → length (listed_values (given_draft var o)) ≡ value_count h.dims var n
+  pub o : Option (Gives v h.dims (look_of h var n width) var (numbers var.ty array))
+  pub shown : is_some o ≡ has_values h.dims n var
+  pub back : array_of h.dims n (given_draft var (option_map (λ g. g.listed) o)) ≡ array
+  pub exact : is_record_var h.dims var ≡ true → length (listed_values (given_draft var (option_map (λ g. g.listed) o))) ≡ value_count h.dims var n
 
 -- any variable that has values is given back by their text: all of them, for every width and wherever the breaks are
 pub row_back : (v : Version) (h : Header) (n width : ℕ) (var : Var) (array : List ℕ) → IsArray h.dims n var array → 0 < value_count h.dims var n → IsName var.name → (is_char var.ty ≡ true → fill_value (trimmed_var var) ≡ fill_value var) →
@@ -143,7 +143,6 @@ is_back v h n width var array is name fill =
     elim (has_values h.dims n var) as (λ b. has_values h.dims n var ≡ b → IsBack v h n width var array) [
       | true ↦ (λ e.
           let r = row_back v h n width var array is (grind arith) name fill in
-          let given = subst (λ b. IsGivenBy b v h.dims (look_of h var n width) var (numbers var.ty array) (Some r.0.listed)) (sym e) (r.0, refl) in
-          record { o = Some r.0.listed; given = given; back = r.1; exact = λ k. ap (λ (ys : List ℤ). length ys) (r.0.exact k) ∙ (array_gives h.dims n var array is).2 })
+          record { o = Some r.0; shown = sym e; back = r.1; exact = λ k. ap (λ (ys : List ℤ). length ys) (r.0.exact k) ∙ (array_gives h.dims n var array is).2 })
       | false ↦ (λ e. search (rules, no_bytes))
     ] refl

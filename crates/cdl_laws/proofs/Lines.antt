@@ -8,10 +8,6 @@ use Rattle.cdl_statements.specs.declared.piece.CutState.TheVariants as places
 one_lexeme : (text : List ℕ) (at : ℕ) (kind : TokenKind) (n : ℕ) (bytes : List ℕ) → drop at text ≡ bytes → lexeme text (token_at text at kind n) ≡ record { kind = kind; bytes = take n bytes }
 one_lexeme text at kind n bytes e = search rules
 
-with_same : (text : List ℕ) (at : ℕ) (k : Option TokenKind) (n : ℕ) (bytes : List ℕ) (ts : List Token) (ls : List Lexeme) → drop at text ≡ bytes → map (lexeme text) ts ≡ ls →
-    map (lexeme text) (with_token text at k n ts) ≡ with_lexeme k (take n bytes) ls
-with_same text at k n bytes ts ls e h = grind (arith, one_lexeme)
-
 tail_at : (text : List ℕ) (at b : ℕ) (bytes : List ℕ) → drop at text ≡ b ∷ bytes → drop (at + 1) text ≡ bytes
 tail_at text at b bytes e = sym (drop-drop 1 at text) ∙ ap (drop 1) e
 
@@ -21,7 +17,7 @@ lexemes_are text fresh at more [] e = ap (λ (l : Lexeme). l ∷ []) (one_lexeme
 lexemes_are text fresh at (suc more) (b ∷ bytes) e = lexemes_are text fresh (at + 1) more bytes (tail_at text at b bytes e)
 lexemes_are text fresh at zero (b ∷ bytes) e =
     let f = scan fresh (b ∷ bytes) in
-    with_same text at f.kind f.len (b ∷ bytes) _ _ e (lexemes_are text (fresh && is_none f.kind) (at + 1) (f.len - 1) bytes (tail_at text at b bytes e))
+    grind (arith, one_lexeme text at, e, lexemes_are text (fresh && is_none f.kind) (at + 1) (f.len - 1) bytes (tail_at text at b bytes e))
 
 -- ---- pieces
 

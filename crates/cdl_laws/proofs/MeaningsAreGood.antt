@@ -86,20 +86,12 @@ nearly v s f whole = record {
 
 -- ---- the laws
 
--- whole is what the limits leave
-abbrev IsRight : Version → Dataset → Type 0
-IsRight v d = IsWhole v d → IsNearlySayable d
-
-end_right : (v : Version) (line : ℕ) (r : Result State CdlFault) → OkIs IsFineState r → OkIs (IsRight v) (finished v line r)
-unfolding finished
-end_right v line r f = grind (arith, nearly v)
-
 pub meanings_are_nearly_sayable : MeaningsAreNearlySayable
+unfolding finished
 meanings_are_nearly_sayable text v d bytes e =
     let ps = statements text in
     let none : IsFineState empty = record { dims = record { fine = tt; names = tt }; gatts = record { fine = tt; names = tt }; drafts = record { fine = tt; names = tt } } in
-    let right = subst (OkIs (IsRight v)) e (end_right v (closing_line ps) (run text v empty ps) (run_keeps text v empty ps (bytes_each text bytes) none)) in
-    right (meanings_are_whole text v d e)
+    grind (arith, run_keeps text v empty ps (bytes_each text bytes) none, meanings_are_whole text v d e, nearly v)
 
 pub meanings_are_good : MeaningsAreGood
 meanings_are_good text v d bytes e = ((meanings_are_nearly_sayable text v d bytes e).good, (meanings_are_whole text v d e).version)

@@ -45,17 +45,13 @@ all_some _ h = grind arith
 abbrev Stands : Lexeme → Type 0
 Stands l = l.kind ≡ kinds.Text → unescape (inner l.bytes) ≡ map Some (string_value (inner l.bytes))
 
--- a lexeme of a kind, before others
-with_one : (k : Option TokenKind) (bytes : List ℕ) (rest : List Lexeme) → (k ≡ Some kinds.Text → unescape (inner bytes) ≡ map Some (string_value (inner bytes))) → Each Stands rest → Each Stands (with_lexeme k bytes rest)
-with_one k bytes rest h h2 = grind arith
-
 strings_stand : (fresh : Bool) (more : ℕ) (bytes : List ℕ) → Each Stands (lexemes_at fresh more bytes)
 unfolding lexemes_at
 strings_stand fresh more [] = ((λ h. cc), tt)
 strings_stand fresh (suc more) (b ∷ bytes) = strings_stand fresh more bytes
 strings_stand fresh zero (b ∷ bytes) =
     let f = scan fresh (b ∷ bytes) in
-    with_one f.kind (take f.len (b ∷ bytes)) _ (λ is. grind (arith, inner_of, string_value, all_some, prefix_says fresh (b ∷ bytes) is)) (strings_stand (fresh && is_none f.kind) (f.len - 1) bytes)
+    grind (arith, inner_of, string_value, all_some, prefix_says fresh (b ∷ bytes), strings_stand (fresh && is_none f.kind) (f.len - 1) bytes)
 
 each_lexeme : (text : List ℕ) (ts : List Token) → Each Stands (map (lexeme text) ts) → Each (StandsForBytes text) ts
 each_lexeme text [] h = tt
