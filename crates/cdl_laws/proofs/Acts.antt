@@ -1,5 +1,5 @@
 -- What the statements of a dump make of a state.
-use Rattle.cdl_laws.proofs.Prelude.{◌≡◌, ℕ, zero, suc, ◌<◌, ◌≤◌, true, false, List, [], ◌∷◌, ◌++◌, length, map, sym, ap, arith, append_assoc, append-nil, ℤ, pos, ◌==◌, nat_le, None, Result, Ok, rules, flat_map, list_any, position_or_len, int_eq, bytes_eq, false≢true, eqb-true, bytes_eq-Decides, Att, Dim, NcType, Char, Version, has_name, has_record_dim, IsDimid, AreDimids, IsName, count_limit, CdlKind, Value, Characters, Draft, add_dim, add_dimid, add_var, add_att, add_constant, first_type, change_named, change_variable, in_turn, ok_or, int_within, has_number, said_dim, AreDistinct, bytes_of_number, and_both, Each, or_right}
+use Rattle.cdl_laws.proofs.Prelude.{dim_name, escaped_name, refl, ◌≡◌, ℕ, zero, suc, ◌<◌, ◌≤◌, true, false, List, [], ◌∷◌, ◌++◌, length, map, sym, ap, arith, append_assoc, append-nil, ℤ, pos, ◌==◌, nat_le, None, Result, Ok, rules, flat_map, list_any, position_or_len, int_eq, bytes_eq, false≢true, eqb-true, bytes_eq-Decides, Att, Dim, NcType, Char, Version, has_name, has_record_dim, IsDimid, AreDimids, IsName, count_limit, CdlKind, Value, Characters, Draft, add_dim, add_dimid, add_var, add_att, add_constant, first_type, change_named, change_variable, in_turn, ok_or, int_within, has_number, said_dim, AreDistinct, bytes_of_number, and_both, Each, or_right}
 use Rattle.cdl_laws.proofs.ValueTexts.{turn}
 use Rattle.cdl_laws.proofs.Declarations.{numbers_said}
 
@@ -81,19 +81,23 @@ place_is _ _ distinct h = grind (arith, bytes_eq-Decides)
 abbrev pub HaveNames : List Dim → Type 0
 HaveNames dims = Each (λ (d : Dim). IsName d.name) dims
 
-pub name_valid : (dims : List Dim) (k : ℕ) → HaveNames dims → k < length dims → IsName (name_at dims k)
-name_valid (d ∷ dims) (suc k) names h = name_valid dims k names.1 (omega (arith, h))
-name_valid _ _ names h = grind arith
+pub name_is : (dims : List Dim) (k : ℕ) → HaveNames dims → k < length dims → (dim_name dims k ≡ escaped_name (name_at dims k)) × IsName (name_at dims k)
+name_is (d ∷ dims) (suc k) names h = name_is dims k names.1 (omega (arith, h))
+name_is _ _ names h = grind arith
 
 id_added : (dims : List Dim) (before : List ℕ) (k : ℕ) → AreDistinctDims dims → HaveNames dims → IsDimid dims before k → add_dimid dims before (name_at dims k) ≡ Ok (before ++ k ∷ [])
 unfolding add_dimid
 id_added dims before k distinct names is =
-    grind (arith, name_at dims k, name_valid dims k names is.known, place_is dims k distinct is.known, is.known, ok_or)
+    grind (arith, name_at dims k, (name_is dims k names is.known).1, place_is dims k distinct is.known, is.known, ok_or)
 
-pub ids_added : (dims : List Dim) (before ids : List ℕ) → AreDistinctDims dims → HaveNames dims → AreDimids dims before ids → in_turn (add_dimid dims) before (map (name_at dims) ids) ≡ Ok (before ++ ids)
-ids_added dims before [] distinct names are = ap (λ bs. Ok bs) (sym (append-nil before))
-ids_added dims before (k ∷ ids) distinct names are =
-    grind (arith, turn, name_at, id_added, append_assoc, ids_added dims (before ++ k ∷ []) ids distinct names are.1)
+-- the ids of a shape are those of its names, which are valid
+pub ids_named : (dims : List Dim) (before ids : List ℕ) → AreDistinctDims dims → HaveNames dims → AreDimids dims before ids →
+    (in_turn (add_dimid dims) before (map (name_at dims) ids) ≡ Ok (before ++ ids)) × (map (dim_name dims) ids ≡ map escaped_name (map (name_at dims) ids)) × Each IsName (map (name_at dims) ids)
+ids_named dims before [] distinct names are = (ap (λ bs. Ok bs) (sym (append-nil before)), refl, tt)
+ids_named dims before (k ∷ ids) distinct names are =
+    let more = ids_named dims (before ++ k ∷ []) ids distinct names are.1 in
+    let name = name_is dims k names are.0.known in
+    (grind (arith, turn, name_at, id_added, append_assoc, more.0), cc (name.0, more.1), (name.1, more.2))
 
 abbrev pub bare_draft : List ℕ → List ℕ → List Att → NcType → Draft
 bare_draft name ids atts ty = record { var = record { name = name; dimids = ids; atts = atts; ty = ty; begin_at = 0 }; listed = None }

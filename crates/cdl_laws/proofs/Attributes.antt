@@ -1,5 +1,5 @@
 -- The values of an attribute are read back.
-use Rattle.cdl_laws.proofs.Prelude.{◌≡◌, ℕ, zero, suc, ◌+◌, ◌*◌, ◌/◌, ◌^◌, ◌<◌, true, false, List, [], ◌∷◌, length, drop, take, map, sym, ◌∙◌, ap, refl, subst, arith, length-take, length-drop, ℤ, rules, pos, unsigned_abs, Ok, flat_map, mul-div_cancel, ints, take-append-drop, get_or-drop, AreBytes, Att, NcType, Char, Version, numbers, numbers_from, bytes_of_number, IsInRange, size_of, IsSoundAtt, att_text, numbers_text, joined, without_trailing_nuls, IsName, is_char, has_type, trimmed_att, HasSomeNumber, Characters, has_number, some_size, is_had, number_suffix, length-numbers_from, Each, each_map, Lexeme, chars_text, concat_parts}
+use Rattle.cdl_laws.proofs.Prelude.{nothing, bytes_each, are_bytes, IsByte, each_take, ◌≡◌, ℕ, zero, suc, ◌+◌, ◌*◌, ◌/◌, ◌^◌, ◌<◌, true, false, List, [], ◌∷◌, length, drop, take, map, sym, ◌∙◌, ap, refl, subst, arith, length-take, length-drop, ℤ, rules, pos, unsigned_abs, Ok, flat_map, mul-div_cancel, ints, take-append-drop, get_or-drop, AreBytes, Att, NcType, Char, Version, numbers, numbers_from, bytes_of_number, IsInRange, size_of, IsSoundAtt, att_text, numbers_text, joined, without_trailing_nuls, IsName, is_char, has_type, trimmed_att, HasSomeNumber, Characters, has_number, some_size, is_had, number_suffix, length-numbers_from, Each, each_map, Lexeme, chars_text, concat_parts}
 use Rattle.nc_base.proofs.NumberBytes.{bytes_read_back, numbers_in_range}
 use Rattle.cdl_laws.proofs.Readings.{numbers_added, chars_added, Speaks, broken_read, numbers_said, suffixed, first, others, all_bytes, strings_said, joined_reads, strings_fine, numeral_again, number_is, on_suffix, string, all_fine, Reads, number, number_reads, commas, constants_say}
 
@@ -9,25 +9,18 @@ small_is ty z h = grind (arith, pos, ints)
 -- ---- the numbers that stand in bytes
 
 pub take_bytes : (n : ℕ) (bytes : List ℕ) → AreBytes bytes → AreBytes (take n bytes)
-take_bytes (suc n) (b ∷ bytes) h zero = h 0
-take_bytes (suc n) (b ∷ bytes) h (suc i) = take_bytes n bytes (λ j. h (suc j)) i
-take_bytes _ _ h i = omega arith
-
-len_take : (ty : NcType) (n : ℕ) (bytes : List ℕ) → length bytes ≡ suc n * size_of ty → length (take (size_of ty) bytes) ≡ size_of ty
-len_take ty n bytes h = grind (arith, length-take (size_of ty) bytes)
-
-len_drop : (ty : NcType) (n : ℕ) (bytes : List ℕ) → length bytes ≡ suc n * size_of ty → length (drop (size_of ty) bytes) ≡ n * size_of ty
-len_drop ty n bytes h = grind (arith, length-drop (size_of ty) bytes)
+take_bytes n bytes h = are_bytes (take n bytes) (each_take IsByte n bytes (bytes_each bytes h))
 
 from_bytes : (ty : NcType) (n : ℕ) (bytes : List ℕ) → AreBytes bytes → length bytes ≡ n * size_of ty →
     (flat_map (bytes_of_number ty) (numbers_from ty n bytes) ≡ bytes) × Each (IsInRange ty) (numbers_from ty n bytes)
-from_bytes ty zero [] small h = (refl, tt)
-from_bytes ty zero (b ∷ bytes) small h = absurd (let e : suc (length bytes) ≡ 0 * size_of ty = h in omega (arith, e))
+from_bytes ty zero bytes small h = (sym (nothing bytes 0 (size_of ty) h refl), tt)
 from_bytes ty (suc n) bytes small h =
+    let a = take (size_of ty) bytes in
     let bytes_first = take_bytes (size_of ty) bytes small in
-    let first = bytes_read_back ty (take (size_of ty) bytes) bytes_first (len_take ty n bytes h) in
-    let others = from_bytes ty n (drop (size_of ty) bytes) (λ i. subst (λ b. b < 256) (sym (get_or-drop (size_of ty) bytes i 0)) (small (size_of ty + i))) (len_drop ty n bytes h) in
-    (cc (first, others.0, take-append-drop (size_of ty) bytes), (numbers_in_range ty (take (size_of ty) bytes) bytes_first (len_take ty n bytes h), others.1))
+    let len : length a ≡ size_of ty = grind (arith, length-take (size_of ty) bytes) in
+    let first = bytes_read_back ty a bytes_first len in
+    let others = from_bytes ty n (drop (size_of ty) bytes) (λ i. subst (λ b. b < 256) (sym (get_or-drop (size_of ty) bytes i 0)) (small (size_of ty + i))) (grind (arith, length-drop (size_of ty) bytes)) in
+    (cc (first, others.0, take-append-drop (size_of ty) bytes), (numbers_in_range ty a bytes_first len, others.1))
 
 pub all_fit : (ty : NcType) (xs : List ℤ) → Each (IsInRange ty) xs → Each (λ x. has_number ty x ≡ true) xs
 all_fit ty xs h = each_map (IsInRange ty) (λ x. has_number ty x ≡ true) xs (is_had ty) h

@@ -6,7 +6,7 @@ use Rattle.cdl_laws.proofs.Strings.{string}
 use Rattle.cdl_laws.proofs.ValueTexts.{commas}
 use Rattle.cdl_laws.proofs.Characters.{later_string, strings_read}
 use Rattle.cdl_laws.proofs.Takes.{statement_says, semicolon, is_fine, word_fine, all_fine}
-use Rattle.cdl_laws.proofs.Heads.{name_starts, bare_word, comment_closed, joined_reads, fine_commas, type_reads, type_starts, opens_none}
+use Rattle.cdl_laws.proofs.Heads.{name_starts, bare_word, comment_closed, joined_reads, fine_commas, type_reads, type_starts, free_word}
 
 -- ---- dimensions
 
@@ -22,7 +22,7 @@ extent_lexeme len = if len == 0 then word (codes "UNLIMITED") else number (decim
 
 extent_closed : (n len : ℕ) → len < 2 ^ 64 → Closed (dim_len_text n len) (extent_lexeme len ∷ semicolon ∷ [])
 unfolding dim_len_text concat_parts unlimited_word currently_word
-extent_closed n zero h rest = simp (reading, bare_word 85 (codes "NLIMITED") refl refl, simp append_assoc at (records_read n rest))
+extent_closed n zero h rest = simp (reading, bare_word (codes "UNLIMITED") refl refl, simp append_assoc at (records_read n rest))
 extent_closed n (suc k) h rest = simp (not_none k, reading, number_reads (decimal (suc k)) (value_is (pos (suc k)) h))
 
 pub dim_says : (v : Version) (n : ℕ) (dim : Dim) → IsName dim.name → dim.len < 2 ^ 64 → IsStatement v Dimensions (dim_line n dim) (DeclareDimensions (said_dim dim ∷ []))
@@ -31,7 +31,7 @@ dim_says v n dim name h =
     let again = value_again v (pos dim.len) h in
     statement_says v Dimensions (dim_line n dim) (word (escaped_name dim.name)) (mark 61 ∷ extent_lexeme dim.len ∷ []) (DeclareDimensions (said_dim dim ∷ []))
     (λ rest. simp (reading, extent_closed)) (name_starts dim.name name) (grind (arith, and_both, word, word_fine, codes "UNLIMITED", decimal dim.len, again, pos dim.len, number))
-    (rw (opens_none (escaped_name dim.name) (name_word dim.name name).free)
+    (rw ((free_word (escaped_name dim.name) (name_word dim.name name).free).1)
     (grind (arith, word (escaped_name dim.name), codes "UNLIMITED", decimal dim.len, pos dim.len, name_word dim.name name, again, number)))
 
 -- ---- constants

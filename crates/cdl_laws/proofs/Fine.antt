@@ -1,14 +1,14 @@
 -- What holds of the dataset so far: of its names, and of the values of its attributes.
-use Rattle.cdl_laws.proofs.Prelude.{◌≡◌, ◌<◌, ℕ, false, List, [], ◌∷◌, ◌++◌, length, map, sym, ◌∙◌, subst, arith, refl, Result, ℤ, map-append, list_any-append, list_any, bytes_eq, length-append, Att, Dim, NcType, Version, has_name, IsName, bytes_of_number, is_char, AreDistinct, Value, Number, Characters, Underscore, Dimension, Variable, Draft, in_turn, add_dim, add_var, change_named, change_variable, add_constant, first_type, add_att, with_att, with_values, CdlKind, Each, IsByte, OkIs, any_each, each_more, number_bytes, ok_next, ok_then, ok_unless, ok_when, or_left, or_right, some_size, turns}
+use Rattle.cdl_laws.proofs.Prelude.{false≢true, bytes_eq-Decides, ◌≡◌, ◌<◌, ℕ, false, List, [], ◌∷◌, ◌++◌, length, map, sym, ◌∙◌, subst, arith, refl, Result, ℤ, map-append, list_any-append, list_any, bytes_eq, length-append, Att, Dim, NcType, Version, has_name, IsName, bytes_of_number, is_char, AreDistinct, Value, Number, Characters, Underscore, Dimension, Variable, Draft, in_turn, add_dim, add_var, change_named, change_variable, add_constant, first_type, add_att, with_att, with_values, CdlKind, Each, IsByte, OkIs, any_each, each_more, number_bytes, ok_next, ok_then, ok_unless, ok_when, or_left, or_right, some_size, turns}
 use Rattle.nc_base.proofs.FilePlaces.{length-number}
 use Rattle.cdl_laws.proofs.Said.{IsFineValue}
-use Rattle.cdl_laws.proofs.Sayables.{swapped, any_map, att_name, dim_name, draft_name}
+use Rattle.cdl_laws.proofs.Sayables.{any_map, att_name, dim_name, draft_name}
 
 -- ---- names
 
 distinct_more : (names : List (List ℕ)) (n : List ℕ) → AreDistinct names → has_name names n ≡ false → AreDistinct (names ++ n ∷ [])
 distinct_more [] n d new = (refl, tt)
-distinct_more (m ∷ names) n d new = grind (arith, list_any-append, swapped, or_left, or_right, distinct_more names n d.1)
+distinct_more (m ∷ names) n d new = grind (arith, list_any-append, false≢true, bytes_eq-Decides, or_left, or_right, distinct_more names n d.1)
 
 -- a thing more, of a name that none has
 named_more : {X : Type 0} (name : X → List ℕ) (xs : List X) (x : X) → AreDistinct (map name xs) → list_any (λ y. bytes_eq (name y) (name x)) xs ≡ false → AreDistinct (map name (xs ++ x ∷ []))
@@ -95,9 +95,3 @@ KeepsFine f = (d : Draft) → IsFineDraft d → OkIs (Renewed IsFineDraft d) (f 
 pub at_keeps : (name : List ℕ) (f : Draft → Result Draft CdlKind) → KeepsFine f → (ds : List Draft) → AreFineDrafts ds → OkIs AreFineDrafts (change_variable name f ds)
 unfolding change_variable
 at_keeps name f step ds fine = grind (arith, named_keeps IsFineDraft name f step ds fine.fine, ok_unless)
-
-pub with_att_keeps : (name : List ℕ) (cs : List Value) → Each IsFineValue cs → KeepsFine (with_att name cs)
-with_att_keeps name cs said d f = grind (arith, att_keeps name cs d.var.atts said f.atts, ok_then)
-
-pub with_values_keeps : (dims : List Dim) (xs : List Value) → KeepsFine (with_values dims xs)
-with_values_keeps dims xs d f = grind (arith, ok_when, ok_next)

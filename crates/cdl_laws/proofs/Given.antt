@@ -1,5 +1,5 @@
 -- The array of a variable is given back by the text of its values.
-use Rattle.cdl_laws.proofs.Prelude.{is_some, ◌≡◌, ℕ, zero, suc, ◌*◌, ◌<◌, true, false, List, [], ◌∷◌, length, drop, take, map, sym, ◌∙◌, ap, refl, subst, arith, length-take, length-drop, ℤ, pos, ◌&&◌, ◌==◌, not, nat_lt, find, Some, rules, if◌then◌else◌, Option, int_eq, false≢true, Decides-int_eq, take-append-drop, Att, Dim, Header, Var, NcType, Version, fill_value, is_fill_att, value_count, IsArray, IsName, numbers, IsInRange, is_record_var, product, slab_lens, look_of, is_char, row_len, trimmed_att, trimmed_var, filled, array_of, and_left, is_off, is_on, Each, each_drop, each_map, each_take, slab_rows, has_values, listed_values, and_false, option_map, takes_of, Numbers, Joined, Rows, ◌≤◌, room_of, Characters, printed, Values, variable_text, IsStatement, Listed, Ok, char_pieces, append-nil, codes, Look}
+use Rattle.cdl_laws.proofs.Prelude.{nothing, is_some, ◌≡◌, ℕ, zero, suc, ◌*◌, ◌<◌, true, false, List, [], ◌∷◌, length, drop, take, map, sym, ◌∙◌, ap, refl, subst, arith, length-take, length-drop, ℤ, pos, ◌&&◌, ◌==◌, not, nat_lt, find, Some, rules, if◌then◌else◌, Option, int_eq, false≢true, Decides-int_eq, take-append-drop, Att, Dim, Header, Var, NcType, Version, fill_value, is_fill_att, value_count, IsArray, IsName, numbers, IsInRange, is_record_var, product, slab_lens, look_of, is_char, row_len, trimmed_att, trimmed_var, filled, array_of, and_left, is_off, is_on, Each, each_drop, each_map, each_take, slab_rows, has_values, listed_values, and_false, option_map, takes_of, Numbers, Joined, Rows, ◌≤◌, room_of, Characters, printed, Values, variable_text, IsStatement, Listed, Ok, char_pieces, append-nil, codes, Look}
 use Rattle.cdl_laws.proofs.Attributes.{AreNumbersOf, numbers_are, all_fit, all_small}
 use Rattle.cdl_laws.proofs.Readings.{flat, IsCharacter, IsWithin, value_said, numbers_say, numbers_listed, strings_say, all_closed, strings, marks_closed, line_listed, table_closed, rows_listed, back_whole}
 use Rattle.cdl_laws.proofs.Characters as characters
@@ -30,8 +30,7 @@ rows_of (suc k) row xs = take row xs ∷ rows_of k row (drop row xs)
 
 flat_rows : (k row : ℕ) (xs : List ℤ) → length xs ≡ k * row → flat (rows_of k row xs) ≡ xs
 unfolding rows_of
-flat_rows zero row [] h = refl
-flat_rows zero row (x ∷ xs) h = absurd (let e : suc (length xs) ≡ 0 * row = h in omega (arith, e))
+flat_rows zero row xs h = sym (nothing xs 0 row h refl)
 flat_rows (suc k) row xs h = search (rules, length-drop, take-append-drop, flat_rows k row (drop row xs))
 
 rows_are : (k row : ℕ) (xs : List ℤ) → length xs ≡ k * row → Each IsCharacter xs → Each (λ (s : List ℤ). (length s ≡ row) × Each IsCharacter s) (rows_of k row xs)
@@ -134,15 +133,11 @@ row_back v h n width var array is count name fill =
     let are = array_gives h.dims n var array is in
     (gives v h n width var (numbers var.ty array) are.2 count are.1 name fill, search (rules, filled, are.0))
 
-pub no_bytes : (array : List ℕ) (m size : ℕ) → length array ≡ m * size → m ≡ 0 → array ≡ []
-no_bytes [] m size h z = refl
-no_bytes (b ∷ array) m size h z = grind arith
-
 pub is_back : (v : Version) (h : Header) (n width : ℕ) (var : Var) (array : List ℕ) → IsArray h.dims n var array → IsName var.name → (is_char var.ty ≡ true → fill_value (trimmed_var var) ≡ fill_value var) → IsBack v h n width var array
 is_back v h n width var array is name fill =
     elim (has_values h.dims n var) as (λ b. has_values h.dims n var ≡ b → IsBack v h n width var array) [
       | true ↦ (λ e.
           let r = row_back v h n width var array is (grind arith) name fill in
-          record { o = Some r.0; shown = sym e; back = r.1; exact = λ k. ap (λ (ys : List ℤ). length ys) (r.0.exact k) ∙ (array_gives h.dims n var array is).2 })
-      | false ↦ (λ e. search (rules, no_bytes))
+          record { o = Some r.0; shown = sym e; back = r.1; exact = λ k. rw (r.0.exact k) (array_gives h.dims n var array is).2 })
+      | false ↦ (λ e. search (rules, nothing))
     ] refl

@@ -1,5 +1,5 @@
 -- The statements of a dump, and what they say.
-use Rattle.cdl_laws.proofs.Prelude.{◌≡◌, ℕ, ◌^◌, ◌<◌, ◌≤◌, true, false, List, [], ◌∷◌, ◌++◌, length, map, ap, refl, arith, append_assoc, ℤ, unsigned_abs, ◌==◌, not, None, Some, codes, rules, printed, list_all, prefix_all, NcType, Byte, Char, Short, Int, Ubyte, Ushort, Uint, Int64, Uint64, Version, escaped_name, is_plain, is_reserved, joined, IsName, type_word, Look, is_char, variable_text, Values, may_begin_word, scan, word_len, Lexeme, role, is_section, section_of, Value, Characters, Listed, both, constants, shape, and_left, and_right, and_both, word_at_start, Each, any_each, IsStatement, sym, ◌∙◌, false≢true, variable_opening, variable_closing, concat_parts, prefix_is, constant}
+use Rattle.cdl_laws.proofs.Prelude.{get_or, ◌≡◌, ℕ, ◌^◌, ◌<◌, ◌≤◌, true, false, List, [], ◌∷◌, ◌++◌, length, map, ap, refl, arith, append_assoc, ℤ, unsigned_abs, ◌==◌, not, None, Some, codes, rules, printed, list_all, prefix_all, NcType, Byte, Char, Short, Int, Ubyte, Ushort, Uint, Int64, Uint64, Version, escaped_name, is_plain, is_reserved, joined, IsName, type_word, Look, is_char, variable_text, Values, may_begin_word, scan, word_len, Lexeme, role, is_section, section_of, Value, Characters, Listed, both, constants, shape, and_left, and_right, and_both, word_at_start, Each, any_each, IsStatement, sym, ◌∙◌, false≢true, variable_opening, variable_closing, concat_parts, prefix_is, constant}
 use Rattle.cdl_laws.proofs.NameTexts.{no_escape}
 use Rattle.cdl_laws.proofs.Texts.{Closed, Reads, stops, mark, mark_read, word, number, name_word, word_reads, stop_word, prefix_again, marks_closed, reading}
 use Rattle.cdl_laws.proofs.Numerals.{value_again}
@@ -10,16 +10,13 @@ use Rattle.cdl_laws.proofs.Takes.{statement_says, semicolon, is_fine, word_fine,
 
 -- ---- words
 
-pub no_section : (w : List ℕ) → is_reserved w ≡ false → is_section w ≡ false
+-- a word that isn't reserved begins no section
+pub free_word : (w : List ℕ) → is_reserved w ≡ false → (is_section w ≡ false) × (section_of (word w) ≡ None)
 unfolding is_reserved is_section
-no_section w h = search (rules, codes)
-
-pub opens_none : (w : List ℕ) → is_reserved w ≡ false → section_of (word w) ≡ None
-unfolding is_reserved
-opens_none w h = search (rules, codes)
+free_word w h = (search (rules, codes), search (rules, codes))
 
 pub name_starts : (name : List ℕ) → IsName name → is_starter (role (word (escaped_name name))) ≡ true
-name_starts name h = rw (no_section (escaped_name name) (name_word name h).free) refl
+name_starts name h = rw ((free_word (escaped_name name) (name_word name h).free).0) refl
 
 plain_len : (w rest : List ℕ) → list_all is_plain w ≡ true → stops rest ≡ true → word_len (w ++ rest) ≡ length w
 plain_len [] rest h k = stop_word rest k
@@ -27,19 +24,12 @@ plain_len (b ∷ w) rest h k =
     grind (arith, and_left, is_plain, and_right, word_at_start, no_escape, plain_len w rest (and_right (is_plain b) (list_all is_plain w) h) k)
 
 -- a word without escapes
-pub bare_word : (b : ℕ) (w : List ℕ) → may_begin_word b ≡ true → list_all is_plain (b ∷ w) ≡ true → Reads (b ∷ w) (word (b ∷ w) ∷ [])
-bare_word b w h all = word_reads b w (λ rest. rw (h) refl) (λ rest stop. plain_len (b ∷ w) rest all stop)
+pub bare_word : (w : List ℕ) → may_begin_word (get_or w 0 0) ≡ true → list_all is_plain w ≡ true → Reads w (word w ∷ [])
+bare_word [] h all = cc
+bare_word (b ∷ w) h all = word_reads b w (λ rest. rw (h) refl) (λ rest stop. plain_len (b ∷ w) rest all stop)
 
 pub type_reads : (ty : NcType) → Reads (type_word ty) (word (type_word ty) ∷ [])
-type_reads Byte = bare_word 98 (codes "yte") refl refl
-type_reads Char = bare_word 99 (codes "har") refl refl
-type_reads Short = bare_word 115 (codes "hort") refl refl
-type_reads Int = bare_word 105 (codes "nt") refl refl
-type_reads Ubyte = bare_word 117 (codes "byte") refl refl
-type_reads Ushort = bare_word 117 (codes "short") refl refl
-type_reads Uint = bare_word 117 (codes "int") refl refl
-type_reads Int64 = bare_word 105 (codes "nt64") refl refl
-type_reads Uint64 = bare_word 117 (codes "int64") refl refl
+type_reads ty = bare_word (type_word ty) (grind arith) (grind arith)
 
 pub type_starts : (ty : NcType) → is_starter (role (word (type_word ty))) ≡ true
 unfolding is_section

@@ -1,7 +1,7 @@
 -- What a text means is good.
-use Rattle.cdl_laws.proofs.Prelude.{◌≡◌, ℕ, List, [], ◌∷◌, map, ap, sym, refl, subst, arith, suc, None, Some, Result, All, rules, AreBytes, Dataset, Att, Dim, Known, Var, Version, IsGood, bare_var, IsName, record_vars, MeaningsAreGood, MeaningsAreNearlySayable, IsNearlySayable, Lexeme, lexeme, statements, piece_read, run, empty, records_in, dataset_of, header_of, closing_line, finished, AreDistinct, AreSayableAtts, HasSomeNumber, Statement, DeclareDimensions, DeclareVariables, Attribute, Listed, State, Draft, act, with_att, with_values, CdlFault, Token, IsByte, IsWhole, OkIs, all_of, are_bytes, Each, each_map, meanings_are_whole, ok_next, ok_then, map-map}
+use Rattle.cdl_laws.proofs.Prelude.{ok_when, bytes_each, ◌≡◌, ℕ, List, [], ◌∷◌, map, ap, sym, refl, subst, arith, suc, None, Some, Result, All, rules, AreBytes, Dataset, Att, Dim, Known, Var, Version, IsGood, bare_var, IsName, record_vars, MeaningsAreGood, MeaningsAreNearlySayable, IsNearlySayable, Lexeme, lexeme, statements, piece_read, run, empty, records_in, dataset_of, header_of, closing_line, finished, AreDistinct, AreSayableAtts, HasSomeNumber, Statement, DeclareDimensions, DeclareVariables, Attribute, Listed, State, Draft, act, with_att, with_values, CdlFault, Token, IsByte, IsWhole, OkIs, all_of, are_bytes, Each, each_map, meanings_are_whole, ok_next, ok_then, map-map}
 use Rattle.cdl_laws.proofs.Said.{HasBytes, IsSaid, shape_says, piece_bytes}
-use Rattle.cdl_laws.proofs.Fine.{IsFineAtt, AreFineAtts, AreFineDims, IsFineDraft, AreFineDrafts, att_keeps, dims_keep, vars_keep, at_keeps, with_att_keeps, with_values_keeps}
+use Rattle.cdl_laws.proofs.Fine.{IsFineAtt, AreFineAtts, AreFineDims, IsFineDraft, AreFineDrafts, att_keeps, dims_keep, vars_keep, at_keeps}
 
 -- ---- the run
 
@@ -15,8 +15,8 @@ unfolding act
 act_keeps v s (DeclareDimensions ds) f said = grind (arith, dims_keep v s.dims ds f.dims, ok_then)
 act_keeps v s (DeclareVariables word vs) f said = grind (arith, ok_next, ok_then, vars_keep s.dims)
 act_keeps v s (Attribute None name cs) f said = grind (arith, att_keeps name cs s.gatts said f.gatts, ok_then)
-act_keeps v s (Attribute (Some variable) name cs) f said = grind (arith, at_keeps variable (with_att name cs) (with_att_keeps name cs said) s.drafts f.drafts, ok_then)
-act_keeps v s (Listed variable xs) f said = grind (arith, at_keeps variable (with_values s.dims xs) (with_values_keeps s.dims xs) s.drafts f.drafts, ok_then)
+act_keeps v s (Attribute (Some variable) name cs) f said = grind (arith, at_keeps variable (with_att name cs) (λ d g. grind (arith, att_keeps name cs d.var.atts said g.atts, ok_then)) s.drafts f.drafts, ok_then)
+act_keeps v s (Listed variable xs) f said = grind (arith, at_keeps variable (with_values s.dims xs) (λ d g. grind (arith, ok_when, ok_next)) s.drafts f.drafts, ok_then)
 act_keeps v s _ f said = record { dims = f.dims; gatts = f.gatts; drafts = f.drafts }
 
 piece_keeps : (v : Version) (s : State) (piece : List Lexeme) → Each HasBytes piece → IsFineState s → OkIs IsFineState (piece_read v s piece)
@@ -27,10 +27,6 @@ run_keeps : (text : List ℕ) (v : Version) (s : State) (ps : List (List Token))
 unfolding run
 run_keeps text v s [] bytes f = f
 run_keeps text v s (p ∷ ps) bytes f = grind (arith, piece_keeps v s (map (lexeme text) p) (piece_bytes text p bytes) f, (λ (t : State). run_keeps text v t ps bytes))
-
-bytes_each : (bs : List ℕ) → AreBytes bs → Each IsByte bs
-bytes_each [] h = tt
-bytes_each (b ∷ bs) h = (h 0, bytes_each bs (λ i. h (suc i)))
 
 -- ---- the parts
 

@@ -90,7 +90,7 @@ pub use Rattle.nc_base.proofs.ValueLaws.{look-type, length-numbers_from}
 pub use Rattle.nc_base.proofs.CharacterRows.{prefix_is, pieces_are, a_row}
 unfoldable pub use Rattle.nc_base.proofs.CharacterRows.{char_pieces, printed}
 pub use Rattle.cdl_statements.proofs.InRange.{is_had}
-pub use Rattle.cdl_laws.proofs.Lists.{EachAfter, or_left, or_right, prefix_all, all_mono, map_none}
+pub use Rattle.cdl_laws.proofs.Lists.{EachAfter, or_left, or_right, prefix_all, all_mono, map_none, nothing, bytes_each}
 pub use Rattle.cdl_statements.proofs.Each.{Each, all_of, each_drop, each_map, each_more, each_of, each_take}
 pub use Rattle.cdl_statements.proofs.Meanings.{IsByte, IsWhole, are_bytes, meanings_are_whole, number_bytes}
 pub use Rattle.cdl_statements.proofs.Results.{OkIs, any_each, ok_next, ok_then, ok_unless, ok_when, turns}

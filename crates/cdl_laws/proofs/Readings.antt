@@ -2,7 +2,7 @@
 pub use Rattle.cdl_laws.proofs.Acts.{no_draft, AreDistinctDims, HaveNames, record_once, is_new_att, variable_is, numbers_added, chars_added}
 pub use Rattle.cdl_laws.proofs.Characters.{flat, strings, table_closed, all_closed, IsCharacter, row_back, rows_listed, line_listed, back_whole, filled_whole, strings_said}
 pub use Rattle.cdl_laws.proofs.Declarations.{Speaks, broken_read, numbers_said, suffixed, first, others, all_bytes, dim_says, global_says, owned_says}
-pub use Rattle.cdl_laws.proofs.Heads.{numbers_say, strings_say, joined_reads, strings_fine, opens_none}
+pub use Rattle.cdl_laws.proofs.Heads.{numbers_say, strings_say, joined_reads, strings_fine, free_word}
 pub use Rattle.cdl_laws.proofs.Lines.{pieces_are, run_is, lexemes_are}
 pub use Rattle.cdl_laws.proofs.NameTexts.{rest_of, marked, bare, begins, name_len, name_value}
 pub use Rattle.cdl_laws.proofs.Numerals.{numeral_again, number_is, on_suffix, value_again, value_is}

@@ -1,7 +1,7 @@
 -- The values that the text of a variable lists give its array.
-use Rattle.cdl_laws.proofs.Prelude.{◌≡◌, ℕ, suc, List, [], ◌∷◌, sym, ◌∙◌, ap, subst, arith, All, Some, slice_get, slice_index_or, rules, Dataset, Att, Dim, Header, Known, Var, fill_value, IsArray, AreArrays, value_count, IsName, IsSayable, IsSayableVar, trimmed_var, filled, all-at, takes_of}
+use Rattle.cdl_laws.proofs.Prelude.{nothing, ◌≡◌, ℕ, suc, List, [], ◌∷◌, sym, ◌∙◌, ap, subst, arith, All, Some, slice_get, slice_index_or, rules, Dataset, Att, Dim, Header, Known, Var, fill_value, IsArray, AreArrays, value_count, IsName, IsSayable, IsSayableVar, trimmed_var, filled, all-at, takes_of}
 use Rattle.cdl_laws.specs.RowLaws.{RowsReadBack, EmptyRowsReadBack}
-use Rattle.cdl_laws.proofs.Given.{row_back, no_bytes, same_fill, array_gives}
+use Rattle.cdl_laws.proofs.Given.{row_back, same_fill, array_gives}
 
 -- ---- the parts of a dataset
 
@@ -34,4 +34,4 @@ rows_read_back d records width place var s known at some =
 pub empty_rows_read_back : EmptyRowsReadBack
 empty_rows_read_back d records place var s known at none =
     let is = is_array d records place var s known at in
-    no_bytes (slice_index_or d.arrays place []) (value_count d.header.dims var records) _ is.whole (grind (arith, none))
+    nothing (slice_index_or d.arrays place []) (value_count d.header.dims var records) _ is.whole (grind (arith, none))

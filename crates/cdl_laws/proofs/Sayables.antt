@@ -5,9 +5,6 @@ use Rattle.cdl_laws.proofs.Attributes.{speaks}
 
 -- ---- names
 
-pub swapped : (a b : List ℕ) → bytes_eq a b ≡ false → bytes_eq b a ≡ false
-swapped a b h = grind (arith, false≢true, bytes_eq-Decides)
-
 -- none of the names is that of a thing before
 abbrev pub AreFresh : {Y : Type 0} → (Y → List ℕ) → List Y → List (List ℕ) → Type 0
 AreFresh made done names = Each (λ name. list_any (λ y. bytes_eq (made y) name) done ≡ false) names

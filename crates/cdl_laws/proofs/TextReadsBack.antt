@@ -35,20 +35,9 @@ data_read d o n gatts full (var ∷ vars) arrays some b distinct =
 
 -- ---- the whole text
 
-abbrev number : NumRecs → ℕ
-number (Known n) = n
-number Streaming = 0
-
--- the header that is read is sound, as the trimmed one is
-small_all : (d : Dataset) (s : State) (n : ℕ) → IsGood d → dataset_of d.header.version s ≡ trimmed d → records_in s.dims s.drafts ≡ n → list_all (has_small_array s.dims n) s.drafts ≡ true → are_within_limits d.header.version s ≡ true
-unfolding are_within_limits
-small_all d s n good back r small =
-    let sound = (sound_is_tested (trimmed d).header).1 (good_still d good).is_sound in
-    and_both _ _ (ap (λ (e : Dataset). is_sound e.header) back ∙ sound) (ap (λ m. list_all (has_small_array s.dims m) s.drafts) r ∙ small)
-
 ready : (d : Dataset) (o : Options) → IsSayable d → IsFull o → (section : DataText) → (g : IsGood d) → section ≡ shown_data_text d.header o (values_in_dataset d) g.records (selection_of d.header o) →
     meaning (dump_text d.header o g.records section) d.header.version ≡ Ok (trimmed d)
-unfolding finished closing_word
+unfolding finished closing_word are_within_limits
 ready d o s full section g is =
     let h = d.header in
     let v = h.version in
@@ -66,10 +55,11 @@ ready d o s full section g is =
     let bytes = dump_text h o n section in
     let gatts = map trimmed_att h.gatts in
     let end = state Ended h.dims gatts b.drafts in
-    let none : record_vars h.dims h.vars ≡ [] → n ≡ 0 = λ e. ap number (sym (ap (λ (k : Header). k.numrecs) g.is_bare) ∙ s.records e) in
+    let none : record_vars h.dims h.vars ≡ [] → n ≡ 0 = λ e. (let known = ap (λ (k : Header). k.numrecs) g.is_bare in cc (known, s.records e)) in
     let count : records_in h.dims b.drafts ≡ n = grind (arith, b.records, none) in
     let back : dataset_of v end ≡ trimmed d = search (rules, b.arrays_are, b.vars_are, count) in
-    let small = small_all d end n g back count b.small in
+    let sound = (sound_is_tested (trimmed d).header).1 (good_still d g).is_sound in
+    let small : are_within_limits v end ≡ true = and_both _ _ (ap (λ (e : Dataset). is_sound e.header) back ∙ sound) (ap (λ m. list_all (has_small_array h.dims m) b.drafts) count ∙ b.small) in
     let dim_names = each_of (λ (dim : Dim). IsName dim.name) h.dims g.names.dims in
     let dims = new_dims v [] h.dims (none_before dim_name (map dim_name h.dims)) s.dims (each_of (IsSoundDim v) h.dims g.is_sound.dims) dim_names g.is_sound.one_record_dim in
     let vars = new_after var_name draft_name draft_of (λ done var. IsFit v h.dims var × no_draft var.name done) (IsFit v h.dims) (λ var. refl) (λ done var f new. (f, new)) [] h.vars (none_before draft_name (map var_name h.vars)) s.names fit in
@@ -80,4 +70,4 @@ ready d o s full section g is =
     grind (arith, run_is bytes v empty, pieces_are bytes, whole_text)
 
 pub text_reads_back : TextReadsBack
-text_reads_back d o text s full is = grind (arith, unknown, number, ready)
+text_reads_back d o text s full is = grind (arith, unknown, ready)

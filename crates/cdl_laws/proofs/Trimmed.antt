@@ -119,9 +119,8 @@ chars_kept (b ∷ c ∷ vals) h = search (rules, false≢true)
 
 -- a character alone is no NUL
 lone : (ys : List ℕ) → suffix_len (λ b. b == 0) ys ≡ 0 → (length ys == 1) ≡ true → fill_by Char ys ≡ pos 0 → ⊥
-lone [] s l e = false≢true l
 lone (b ∷ []) s l e = grind arith
-lone (b ∷ c ∷ ys) s l e = let f : (length (b ∷ c ∷ ys) == 1) ≡ false = grind arith in false≢true (sym f ∙ l)
+lone _ s l e = grind (arith, false≢true)
 
 cut_changes : (vals : List ℕ) → cut_by vals ≡ true → fill_by Char (without_trailing_nuls vals) ≡ fill_by Char vals → ⊥
 cut_changes vals h e =

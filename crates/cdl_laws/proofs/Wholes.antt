@@ -4,7 +4,7 @@ use Rattle.cdl_laws.proofs.Texts.{word}
 use Rattle.cdl_laws.proofs.ValueTexts.{turn}
 use Rattle.cdl_laws.proofs.Takes.{Takes, says_takes, takes_both}
 use Rattle.cdl_laws.proofs.Declarations.{Speaks, owned_says, AreNames, declaration_says}
-use Rattle.cdl_laws.proofs.Acts.{record_once, is_new_att, att_added, no_draft, variable_is, name_at, AreDistinctDims, HaveNames, name_valid, bare_draft, ids_added, var_added}
+use Rattle.cdl_laws.proofs.Acts.{record_once, is_new_att, att_added, no_draft, variable_is, name_at, AreDistinctDims, HaveNames, bare_draft, ids_named, var_added}
 
 abbrev pub state : Section → List Dim → List Att → List Draft → State
 state section dims gatts drafts = record { section = section; dims = dims; gatts = gatts; drafts = drafts }
@@ -61,22 +61,9 @@ draft_of var = record { var = trimmed_var var; listed = None }
 abbrev pub AreFit : Version → List Dim → List Draft → List Var → Type 0
 AreFit v dims before vars = EachAfter draft_of (λ done var. IsFit v dims var × no_draft var.name done) before vars
 
--- the shape's names
-known_names : (dims : List Dim) (before ids : List ℕ) → AreDimids dims before ids → map (dim_name dims) ids ≡ map escaped_name (map (name_at dims) ids)
-known_names dims before [] are = refl
-known_names dims before (k ∷ ids) are = ap (λ n. n ∷ map (dim_name dims) ids) (name dims k are.0.known) ∙ ap (λ ns. escaped_name (name_at dims k) ∷ ns) (known_names dims (before ++ k ∷ []) ids are.1)
-  where
-    name : (dims : List Dim) (k : ℕ) → k < length dims → dim_name dims k ≡ escaped_name (name_at dims k)
-    name (d ∷ dims) (suc k) h = name dims k (omega (arith, h))
-    name _ _ h = grind arith
-
-pub valid_names : (dims : List Dim) (before ids : List ℕ) → HaveNames dims → AreDimids dims before ids → AreNames (map (name_at dims) ids)
-valid_names dims before [] names are = tt
-valid_names dims before (k ∷ ids) names are = (name_valid dims k names are.0.known, valid_names dims (before ++ k ∷ []) ids names are.1)
-
 pub declared : (v : Version) (dims : List Dim) (var : Var) → IsName var.name → AreDimids dims [] var.dimids → HaveNames dims → AreDistinctDims dims → has_type v var.ty ≡ true → DeclarationReadsBack v dims var
 unfolding type_of var_lines concat_parts
-declared v dims var name are names distinct known = grind (arith, append_assoc, append-nil, declaration_says, known_names, name, valid_names, ids_added)
+declared v dims var name are names distinct known = (let named = ids_named dims [] var.dimids distinct names are in grind (arith, append_assoc, append-nil, declaration_says, name, named.0, named.1, named.2))
 
 pub var_taken : (v : Version) (dims : List Dim) (gatts : List Att) (before : List Draft) (var : Var) → IsFit v dims var → no_draft var.name before → AreDistinctDims dims → HaveNames dims →
     Takes v (var_lines dims var) (state Variables dims gatts before) (state Variables dims gatts (before ++ draft_of var ∷ []))

@@ -1,6 +1,6 @@
 -- Names, strings and numbers are read back, each as one token.
 use Rattle.cdl_laws.proofs.Prelude.{◌≡◌, ℕ, ◌+◌, true, false, List, [], ◌∷◌, ◌++◌, length, get_or, sym, ◌∙◌, ap, refl, subst, arith, ◌||◌, ◌==◌, codes, ◌≤◌, false≢true, eqb-true, take-append-drop, get_or-drop, take-append_seam, is_reserved, is_blank, word_len, begins_opening, and_right, word_at_start, or_second, prefix_len, escaped_name, escaped_text, goes_on_number, scan, stands_for, NamesReadBack, StopsNumber, and_left, number_suffix}
-use Rattle.cdl_laws.proofs.Readings.{is_stop, stop_word, name_word, some_name, opens_none, begins, name_len, name_value, numeral_again, value_again, number_is, value_is, on_suffix, unescape_all, between_quotes, string_token}
+use Rattle.cdl_laws.proofs.Readings.{is_stop, stop_word, name_word, some_name, free_word, begins, name_len, name_value, numeral_again, value_again, number_is, value_is, on_suffix, unescape_all, between_quotes, string_token}
 use Rattle.cdl_laws.proofs.Attributes.{small_is}
 use Rattle.cdl_laws.proofs.laws.token_reads_back.Goals as goal
 
@@ -34,7 +34,7 @@ names_read_back (b ∷ bs) h =
     record {
       token = λ rest stops. grind (arith, and_left, begins, name_len, free_begins);
       free = word.free;
-      no_section = opens_none (escaped_name (b ∷ bs)) word.free;
+      no_section = (free_word (escaped_name (b ∷ bs)) word.free).1;
       value = grind (arith, and_left, some_name, and_right, begins, name_value);
       says = word.stands;
     }
