@@ -1,5 +1,5 @@
 -- The data section of a dump, variable after variable.
-use Rattle.cdl_laws.proofs.Prelude.{is_some, option_map, ◌≡◌, ℕ, Bool, true, false, List, ◌∷◌, ◌++◌, length, map, sym, ◌∙◌, ap, refl, ℤ, if◌then◌else◌, Option, None, Some, Ok, arith, rules, DataText, Att, Dim, Header, Var, Version, VariableValues, with_variable, fill_value, IsName, is_record_var, Look, variable_text, Values, trimmed_var, Value, Listed, State, Draft, act, filled, IsStatement, values_listed}
+use Rattle.cdl_laws.proofs.Prelude.{is_some, option_map, ◌≡◌, ℕ, Bool, true, List, ◌∷◌, ◌++◌, length, map, sym, refl, ℤ, if◌then◌else◌, Option, None, Some, Ok, arith, DataText, Att, Dim, Header, Var, Version, VariableValues, with_variable, fill_value, IsName, is_record_var, Look, variable_text, Values, trimmed_var, Value, Listed, State, Draft, act, filled, IsStatement, values_listed}
 use Rattle.cdl_laws.proofs.Readings.{filled_whole, Takes, says_takes, takes_both, no_draft, variable_is, state, draft_of}
 
 -- ---- one variable

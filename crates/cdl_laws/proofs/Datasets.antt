@@ -1,5 +1,5 @@
 -- A dataset that a text can declare is read back from its full dump.
-use Rattle.cdl_laws.proofs.Prelude.{IsArray, option_map, ◌≡◌, ℕ, ◌+◌, ◌*◌, ◌-◌, ◌/◌, ◌<◌, true, List, [], ◌∷◌, ◌++◌, map, ◌∙◌, ap, refl, arith, append_assoc, slice_index_or, ◌⊎◌, drop, sym, subst, KeepsFill, mul-add-div, div-eq_of_lt, Dataset, Dim, Var, values_in_dataset, AreArrays, IsName, numbers, slab_count, record_vars, trimmed_var, array_of, records_in, Draft, Each, list_all, record_size_of, padded_size, has_small_array, and_both, le-leb, AreDistinct, Att, get_or-drop, drop-drop, variables_text, shown_data, Values, whole, has_values, look_of, map-map}
+use Rattle.cdl_laws.proofs.Prelude.{rules, IsArray, option_map, ◌≡◌, ℕ, ◌+◌, ◌*◌, ◌-◌, ◌/◌, ◌<◌, true, List, [], ◌∷◌, ◌++◌, map, ◌∙◌, ap, refl, arith, append_assoc, slice_index_or, ◌⊎◌, drop, sym, subst, KeepsFill, mul-add-div, div-eq_of_lt, Dataset, Dim, Var, values_in_dataset, AreArrays, IsName, slab_count, record_vars, trimmed_var, array_of, records_in, Draft, Each, list_all, record_size_of, padded_size, has_small_array, and_both, le-leb, AreDistinct, Att, get_or-drop, drop-drop, variables_text, shown_data, Values, whole, has_values, look_of, map-map}
 use Rattle.cdl_laws.proofs.Given.{is_back}
 use Rattle.cdl_laws.proofs.Readings.{Takes, takes_nothing, state, draft_of}
 use Rattle.cdl_laws.proofs.Sayables.{AreFresh, fresh_more, draft_name, var_name}
@@ -36,8 +36,8 @@ are_back d n width place (var ∷ vars) (a ∷ arrays) at are all =
     record {
       drafts = draft ∷ others.drafts;
       vars_are = ap (λ vs. trimmed_var var ∷ vs) others.vars_are;
-      arrays_are = cc (b.back, here, others.arrays_are);
-      small = grind (arith, and_both, le-leb, others.small, are.0.small, are.0.whole);
+      arrays_are = ap (λ x. x ∷ map (array_of h.dims n) others.drafts) (b.back ∙ here) ∙ ap (λ xs. a ∷ xs) others.arrays_are;
+      small = and_both _ _ (search (rules, le-leb, are.0.small, are.0.whole)) others.small;
       records = grind (arith, counted, others.records, b.exact, all.0.2);
       taken = λ gatts before fresh distinct. one_taken h.version h gatts before _ (look_of h var n width) var (values_in_dataset d place var) b.o place _ _ (has_values h.dims n var) all.0.0 fresh.0 refl b.shown
           (simp append_assoc at (others.taken gatts (before ++ draft ∷ []) (fresh_more draft_name before draft (map var_name vars) fresh.1 distinct.0) distinct.1));

@@ -1,5 +1,5 @@
 -- What holds of the dataset so far: of its names, and of the values of its attributes.
-use Rattle.cdl_laws.proofs.Prelude.{false≢true, bytes_eq-Decides, ◌≡◌, ◌<◌, ℕ, false, List, [], ◌∷◌, ◌++◌, length, map, sym, ◌∙◌, subst, arith, refl, Result, ℤ, map-append, list_any-append, list_any, bytes_eq, length-append, Att, Dim, NcType, Version, has_name, IsName, bytes_of_number, is_char, AreDistinct, Value, Number, Characters, Underscore, Dimension, Variable, Draft, in_turn, add_dim, add_var, change_named, change_variable, add_constant, first_type, add_att, with_att, with_values, CdlKind, Each, IsByte, OkIs, any_each, each_more, number_bytes, ok_next, ok_then, ok_unless, ok_when, or_left, or_right, some_size, turns}
+use Rattle.cdl_laws.proofs.Prelude.{false≢true, bytes_eq-Decides, ◌≡◌, ◌<◌, ℕ, false, List, [], ◌∷◌, ◌++◌, length, map, sym, ◌∙◌, subst, arith, refl, Result, map-append, list_any-append, list_any, bytes_eq, length-append, Att, Dim, NcType, Version, has_name, IsName, is_char, AreDistinct, Value, Number, Characters, Underscore, Dimension, Variable, Draft, in_turn, add_dim, add_var, change_named, change_variable, add_constant, first_type, add_att, CdlKind, Each, IsByte, OkIs, any_each, each_more, number_bytes, ok_next, ok_then, ok_unless, ok_when, or_left, or_right, some_size, turns}
 use Rattle.nc_base.proofs.FilePlaces.{length-number}
 use Rattle.cdl_laws.proofs.Said.{IsFineValue}
 use Rattle.cdl_laws.proofs.Sayables.{any_map, att_name, dim_name, draft_name}

@@ -1,5 +1,5 @@
 -- The statements of a dump, and what they say.
-use Rattle.cdl_laws.proofs.Prelude.{get_or, ◌≡◌, ℕ, ◌^◌, ◌<◌, ◌≤◌, true, false, List, [], ◌∷◌, ◌++◌, length, map, ap, refl, arith, append_assoc, ℤ, unsigned_abs, ◌==◌, not, None, Some, codes, rules, printed, list_all, prefix_all, NcType, Byte, Char, Short, Int, Ubyte, Ushort, Uint, Int64, Uint64, Version, escaped_name, is_plain, is_reserved, joined, IsName, type_word, Look, is_char, variable_text, Values, may_begin_word, scan, word_len, Lexeme, role, is_section, section_of, Value, Characters, Listed, both, constants, shape, and_left, and_right, and_both, word_at_start, Each, any_each, IsStatement, sym, ◌∙◌, false≢true, variable_opening, variable_closing, concat_parts, prefix_is, constant}
+use Rattle.cdl_laws.proofs.Prelude.{get_or, ◌≡◌, ℕ, ◌^◌, ◌<◌, ◌≤◌, true, false, List, [], ◌∷◌, ◌++◌, length, map, ap, refl, arith, append_assoc, ℤ, unsigned_abs, ◌==◌, not, None, Some, codes, rules, printed, list_all, prefix_all, NcType, Version, escaped_name, is_plain, is_reserved, joined, IsName, type_word, Look, is_char, variable_text, Values, may_begin_word, scan, word_len, Lexeme, role, is_section, section_of, Value, Characters, Listed, both, constants, shape, and_left, and_right, and_both, word_at_start, Each, any_each, IsStatement, sym, ◌∙◌, false≢true, variable_opening, variable_closing, concat_parts, prefix_is, constant}
 use Rattle.cdl_laws.proofs.NameTexts.{no_escape}
 use Rattle.cdl_laws.proofs.Texts.{Closed, Reads, stops, mark, mark_read, word, number, name_word, word_reads, stop_word, prefix_again, marks_closed, reading}
 use Rattle.cdl_laws.proofs.Numerals.{value_again}

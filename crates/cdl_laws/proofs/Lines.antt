@@ -1,5 +1,5 @@
 -- Tokens have places and lines, and lexemes have none: what all pieces make of a state is the same.
-use Rattle.cdl_laws.proofs.Prelude.{◌≡◌, ℕ, zero, suc, ◌+◌, ◌-◌, Bool, true, List, [], ◌∷◌, drop, take, map, sym, ◌∙◌, ap, refl, ◌&&◌, Option, is_none, Ok, rules, arith, drop-drop, Version, TokenKind, Role, CutState, Token, scan, Lexeme, lexeme, first_role, role, run, piece_read, statements, pieces_after, with_first, step, cut_lexemes, lexemes_at, lexemes, with_lexeme, State, in_turn, tokens_at, tokens, with_token, token_at}
+use Rattle.cdl_laws.proofs.Prelude.{◌≡◌, ℕ, zero, suc, ◌+◌, ◌-◌, Bool, true, List, [], ◌∷◌, drop, take, map, sym, ◌∙◌, ap, refl, ◌&&◌, is_none, Ok, rules, arith, drop-drop, Version, TokenKind, Role, CutState, Token, scan, Lexeme, lexeme, first_role, role, run, piece_read, statements, pieces_after, with_first, step, cut_lexemes, lexemes_at, lexemes, State, in_turn, tokens_at, tokens, token_at}
 use Rattle.cdl_tokens.specs.declared.token.TokenKind.TheVariants as kinds
 use Rattle.cdl_statements.specs.declared.piece.CutState.TheVariants as places
 

@@ -1,5 +1,5 @@
 -- What a text means is good.
-use Rattle.cdl_laws.proofs.Prelude.{ok_when, bytes_each, ◌≡◌, ℕ, List, [], ◌∷◌, map, ap, sym, refl, subst, arith, suc, None, Some, Result, All, rules, AreBytes, Dataset, Att, Dim, Known, Var, Version, IsGood, bare_var, IsName, record_vars, MeaningsAreGood, MeaningsAreNearlySayable, IsNearlySayable, Lexeme, lexeme, statements, piece_read, run, empty, records_in, dataset_of, header_of, closing_line, finished, AreDistinct, AreSayableAtts, HasSomeNumber, Statement, DeclareDimensions, DeclareVariables, Attribute, Listed, State, Draft, act, with_att, with_values, CdlFault, Token, IsByte, IsWhole, OkIs, all_of, are_bytes, Each, each_map, meanings_are_whole, ok_next, ok_then, map-map}
+use Rattle.cdl_laws.proofs.Prelude.{ok_when, bytes_each, ◌≡◌, ℕ, List, [], ◌∷◌, map, ap, sym, refl, subst, arith, None, Some, All, rules, AreBytes, Att, Dim, Known, Var, Version, IsGood, bare_var, IsName, record_vars, MeaningsAreGood, MeaningsAreNearlySayable, IsNearlySayable, Lexeme, lexeme, statements, piece_read, run, empty, records_in, dataset_of, header_of, finished, AreDistinct, AreSayableAtts, HasSomeNumber, Statement, DeclareDimensions, DeclareVariables, Attribute, Listed, State, Draft, act, with_att, with_values, Token, IsByte, IsWhole, OkIs, all_of, are_bytes, Each, each_map, meanings_are_whole, ok_next, ok_then, map-map}
 use Rattle.cdl_laws.proofs.Said.{HasBytes, IsSaid, shape_says, piece_bytes}
 use Rattle.cdl_laws.proofs.Fine.{IsFineAtt, AreFineAtts, AreFineDims, IsFineDraft, AreFineDrafts, att_keeps, dims_keep, vars_keep, at_keeps}
 

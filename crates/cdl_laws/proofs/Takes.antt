@@ -34,10 +34,13 @@ inside_one (t ∷ p) rest h =
     let plain : all_plain p ≡ true = and_right (is_plain (role t)) (all_plain p) h in
     grind (arith, is_plain, and_left (is_plain (role t)) (all_plain p) h, next_goes_on p rest plain, with_first, inside_one p rest plain)
 
+begun : (r n : Role) → is_starter r ≡ true → is_end_role n ≡ false → step Begins r n ≡ record { ends = false; state = Inside }
+begun r n h off = grind arith
+
 one_by_steps : (t : Lexeme) (p rest : List Lexeme) → is_starter (role t) ≡ true → all_plain p ≡ true →
     pieces_after role Begins ((t ∷ p ++ semicolon ∷ []) ++ rest) ≡ (t ∷ p ++ semicolon ∷ []) ∷ pieces_after role Begins rest
 unfolding pieces_after
-one_by_steps t p rest start h = grind (arith, append_assoc p (semicolon ∷ []) rest, next_goes_on p rest h, inside_one p rest h)
+one_by_steps t p rest start h = rw (append_assoc p (semicolon ∷ []) rest, begun (role t) (first_role role (p ++ semicolon ∷ rest)) start (next_goes_on p rest h), inside_one p rest h) refl
 
 -- ---- what a text makes of a state
 

@@ -1,10 +1,9 @@
 -- The full dump of a dataset that a text can declare means that dataset, trimmed.
-use Rattle.cdl_laws.proofs.Prelude.{◌≡◌, ℕ, true, false, List, [], ◌∷◌, ◌++◌, map, ◌∙◌, ap, refl, append_assoc, append-nil, None, Ok, codes, arith, rules, ◌<◌, sym, slice_index_or, KeepsFill, IsSoundDim, Enter, act, DataText, variables_text, concat_parts, Dataset, Att, Header, Var, Options, dump_text, shown_data_text, values_in_dataset, shown_data, selection_of, is_selected, data_word, closing_word, head_text, netcdf_word, dims_text, vars_text, gatts_text, Variables, Values, Ended, meaning, piece_read, empty, finished, are_within_limits, dataset_of, cut_lexemes, lexemes, pieces_of, IsFull, trimmed, trimmed_att, in_turn, list_all, Dim, Known, Streaming, unknown, IsGood, bare_var, IsName, slab_count, has_small_array, is_sound, records_in, sound_is_tested, State, TextReadsBack, AreDistinct, IsSayable, Draft, and_both, some_count, each_of, record_vars, get_or-map, map_none}
+use Rattle.cdl_laws.proofs.Prelude.{◌≡◌, ℕ, true, false, List, [], ◌∷◌, ◌++◌, map, ◌∙◌, ap, refl, append_assoc, append-nil, None, Ok, codes, arith, rules, ◌<◌, slice_index_or, KeepsFill, IsSoundDim, Enter, act, DataText, variables_text, concat_parts, Dataset, Att, Header, Var, Options, dump_text, shown_data_text, values_in_dataset, shown_data, selection_of, is_selected, data_word, closing_word, head_text, netcdf_word, dims_text, vars_text, gatts_text, Variables, Values, Ended, meaning, piece_read, empty, finished, are_within_limits, dataset_of, cut_lexemes, lexemes, pieces_of, IsFull, trimmed, trimmed_att, in_turn, list_all, Dim, unknown, IsGood, bare_var, IsName, slab_count, has_small_array, is_sound, records_in, sound_is_tested, TextReadsBack, AreDistinct, IsSayable, Draft, and_both, some_count, each_of, record_vars, get_or-map, map_none}
 use Rattle.cdl_laws.proofs.Readings.{no_draft, IsFit, state, draft_of, says_takes, pieces_are, run_is}
 use Rattle.cdl_laws.proofs.DataTexts.{all_marked}
 use Rattle.cdl_laws.proofs.Datasets.{AreBack, are_back, data_whole}
 use Rattle.cdl_laws.proofs.Ends.{opening_bytes, opened, dims_part, vars_part, gatts_part, data_says, end_taken, after_dims, after_vars}
-use Rattle.nc_base.specs.declared.header.NumRecs.{NumRecs}
 use Rattle.cdl_laws.proofs.Sayables.{new_after, none_before, draft_name, var_name, atts_new, atts_speak, new_dims, dim_name}
 use Rattle.cdl_laws.proofs.Trimmed.{good_still}
 

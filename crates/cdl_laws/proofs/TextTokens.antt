@@ -1,5 +1,5 @@
 -- The strings of a text stand for bytes.
-use Rattle.cdl_laws.proofs.Prelude.{◌≡◌, ℕ, zero, suc, ◌+◌, ◌-◌, ◌<◌, Bool, true, List, [], ◌∷◌, length, take, drop, sym, ap, refl, subst, arith, ◌&&◌, if◌then◌else◌, map, Option, Some, is_none, is_some, rules, false, list_all, inner, string_value, unescape, or_zero, scan, scan_text, tokens, Lexeme, lexeme, lexemes_at, with_lexeme, Scanned, Token, TokenKind, StandsForBytes, StringsStandForBytes, inner_of, Each, all_of}
+use Rattle.cdl_laws.proofs.Prelude.{◌≡◌, ℕ, zero, suc, ◌+◌, ◌-◌, ◌<◌, Bool, true, List, [], ◌∷◌, length, take, drop, sym, ap, refl, subst, arith, ◌&&◌, if◌then◌else◌, map, Option, Some, is_none, is_some, rules, false, list_all, inner, string_value, unescape, or_zero, scan, scan_text, tokens, Lexeme, lexeme, lexemes_at, Scanned, Token, TokenKind, StandsForBytes, StringsStandForBytes, inner_of, Each, all_of}
 use Rattle.cdl_tokens.specs.declared.token.TokenKind.TheVariants as kinds
 use Rattle.cdl_laws.proofs.Readings.{lexemes_are}
 

@@ -108,8 +108,11 @@ abbrev pub IsWithin : Option ℕ → ℕ → Type 0
 IsWithin None n = Unit {0}
 IsWithin (Some room) n = n ≤ room
 
+one_added : (look : Look) (ty : NcType) (room : Option ℕ) (before : List ℤ) (x : ℤ) (xs : List ℤ) → IsWithin room (length (before ++ x ∷ xs)) → has_number ty x ≡ true → add_value (Numbers ty look.fill) room before (value_said look x) ≡ Ok (before ++ x ∷ [])
+one_added look ty room before x xs wide fit = grind (arith, length-append, le-leb)
+
 pub numbers_listed : (look : Look) (ty : NcType) (room : Option ℕ) (before xs : List ℤ) → IsWithin room (length (before ++ xs)) → Each (λ x. has_number ty x ≡ true) xs →
     in_turn (add_value (Numbers ty look.fill) room) before (map (value_said look) xs) ≡ Ok (before ++ xs)
 numbers_listed look ty room before [] wide fit = ap Ok (sym (append-nil before))
 numbers_listed look ty room before (x ∷ xs) wide fit =
-    grind (arith, turn, length-append, le-leb, append_assoc, numbers_listed look ty room (before ++ x ∷ []) xs)
+    grind (arith, turn, one_added, append_assoc, numbers_listed look ty room (before ++ x ∷ []) xs)

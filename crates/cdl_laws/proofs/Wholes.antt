@@ -1,10 +1,10 @@
 -- The head of a dump, statement after statement.
-use Rattle.cdl_laws.proofs.Prelude.{◌≡◌, ℕ, suc, ◌^◌, ◌<◌, true, false, List, [], ◌∷◌, ◌++◌, length, map, sym, ◌∙◌, ap, refl, subst, arith, append_assoc, append-nil, None, Some, Ok, list_any, bytes_eq, concat_parts, Att, Dim, Var, Version, escaped_name, AreDimids, att_line, att_lines, var_lines, dim_name, IsName, type_word, count_limit, has_type, Section, Variables, trimmed_att, trimmed_var, DeclareVariables, Attribute, State, Draft, act, declaration, EachAfter, type_of, AttributeReadsBack, escaped_owner, Value, add_att, Option, DeclarationReadsBack}
+use Rattle.cdl_laws.proofs.Prelude.{◌≡◌, ℕ, ◌^◌, ◌<◌, true, false, List, [], ◌∷◌, ◌++◌, map, sym, subst, arith, append_assoc, append-nil, None, Some, Ok, list_any, bytes_eq, concat_parts, Att, Dim, Var, Version, escaped_name, AreDimids, att_line, att_lines, var_lines, IsName, type_word, count_limit, has_type, Section, Variables, trimmed_att, trimmed_var, DeclareVariables, Attribute, State, Draft, act, declaration, EachAfter, type_of, AttributeReadsBack, escaped_owner, Value, add_att, Option, DeclarationReadsBack}
 use Rattle.cdl_laws.proofs.Texts.{word}
 use Rattle.cdl_laws.proofs.ValueTexts.{turn}
 use Rattle.cdl_laws.proofs.Takes.{Takes, says_takes, takes_both}
-use Rattle.cdl_laws.proofs.Declarations.{Speaks, owned_says, AreNames, declaration_says}
-use Rattle.cdl_laws.proofs.Acts.{record_once, is_new_att, att_added, no_draft, variable_is, name_at, AreDistinctDims, HaveNames, bare_draft, ids_named, var_added}
+use Rattle.cdl_laws.proofs.Declarations.{Speaks, owned_says, declaration_says}
+use Rattle.cdl_laws.proofs.Acts.{record_once, is_new_att, att_added, no_draft, variable_is, AreDistinctDims, HaveNames, bare_draft, ids_named, var_added}
 
 abbrev pub state : Section → List Dim → List Att → List Draft → State
 state section dims gatts drafts = record { section = section; dims = dims; gatts = gatts; drafts = drafts }
