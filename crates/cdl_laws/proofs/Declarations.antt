@@ -1,11 +1,11 @@
 -- The statements of a head, and what they say.
-use Rattle.cdl_laws.proofs.Prelude.{◌≡◌, ℕ, zero, suc, ◌^◌, ◌<◌, true, false, List, [], ◌∷◌, ◌++◌, map, sym, ◌∙◌, ap, refl, arith, append_assoc, append-nil, ℤ, pos, decimal, ◌==◌, not, if◌then◌else◌, None, Some, Ok, codes, rules, length, subst, signed_decimal, flat_map, list_all, list_all-append, all_mono, concat_parts, Att, Dim, NcType, Version, escaped_name, escaped_in_string, joined, dim_len_text, dim_line, unlimited_word, currently_word, att_line, att_text, broken_text, string_break, IsName, number_suffix, Section, Dimensions, Variables, is_digit, Lexeme, said_dim, IsBeforeData, globals, dimensions, variables, Value, Number, DeclareDimensions, Attribute, both, constants, assigned, shape, and_left, and_right, and_both, Each, escaped_text, type_word, DeclareVariables, Variable, in_parentheses, any_each, each_map, not_none, IsStatement, AttributeReadsBack, first_type, in_turn, add_constant, trimmed_att, Var, declaration, dim_name, shape_text, lexemes_at}
+use Rattle.cdl_laws.proofs.Prelude.{Option, escaped_owner, role, ◌≡◌, ℕ, zero, suc, ◌^◌, ◌<◌, true, false, List, [], ◌∷◌, ◌++◌, map, sym, ◌∙◌, ap, refl, arith, append_assoc, append-nil, ℤ, pos, decimal, ◌==◌, not, if◌then◌else◌, None, Some, Ok, codes, rules, length, subst, signed_decimal, flat_map, list_all, list_all-append, all_mono, concat_parts, Att, Dim, NcType, Version, escaped_name, escaped_in_string, joined, dim_len_text, dim_line, unlimited_word, currently_word, att_line, att_text, broken_text, string_break, IsName, number_suffix, Section, Dimensions, Variables, is_digit, Lexeme, said_dim, IsBeforeData, globals, dimensions, variables, Value, Number, DeclareDimensions, Attribute, both, constants, assigned, shape, and_left, and_right, and_both, Each, escaped_text, type_word, DeclareVariables, Variable, in_parentheses, any_each, each_map, not_none, IsStatement, AttributeReadsBack, first_type, in_turn, add_constant, trimmed_att, Var, declaration, dim_name, shape_text, lexemes_at}
 use Rattle.cdl_laws.proofs.Texts.{Closed, Reads, mark, word, number, name_word, name_stands, marks_closed, number_reads, mark_read, stops, reading}
 use Rattle.cdl_laws.proofs.Numerals.{value_again, decimal_digits, value_is}
 use Rattle.cdl_laws.proofs.Strings.{string}
 use Rattle.cdl_laws.proofs.ValueTexts.{commas}
 use Rattle.cdl_laws.proofs.Characters.{later_string, strings_read}
-use Rattle.cdl_laws.proofs.Takes.{statement_says, semicolon, is_fine, word_fine, all_fine}
+use Rattle.cdl_laws.proofs.Takes.{statement_says, semicolon, is_fine, is_starter, word_fine, all_fine}
 use Rattle.cdl_laws.proofs.Heads.{name_starts, bare_word, comment_closed, joined_reads, fine_commas, type_reads, type_starts, free_word}
 
 -- ---- dimensions
@@ -96,17 +96,17 @@ global_in v section ls globals = refl
 global_in v section ls dimensions = refl
 global_in v section ls variables = refl
 
+att_says : (v : Version) (section : Section) (owner : Option (List ℕ)) (att : Att) (s : Speaks v att) (a : Lexeme) (p : List Lexeme) → Closed (att_line (escaped_owner owner) att) (a ∷ p ++ semicolon ∷ []) →
+    is_starter (role a) ≡ true → list_all (is_fine v) (a ∷ p) ≡ true → shape v section (a ∷ p ++ semicolon ∷ []) ≡ Some (Attribute owner att.name s.said) → AttributeReadsBack v section owner att
+att_says v section owner att s a p closed starts fine is =
+    record { constants = s.said; statement = statement_says v section (att_line (escaped_owner owner) att) a p (Attribute owner att.name s.said) closed starts fine is; ty = s.type; vals = s.are }
+
 pub global_says : (v : Version) (section : Section) → IsBeforeData section → (att : Att) → Speaks v att → AttributeReadsBack v section None att
 unfolding att_line concat_parts
 global_says v section before att s =
     let ls = word (escaped_name att.name) ∷ mark 61 ∷ s.l ∷ commas s.ls in
     let is = global_in v section (ls ++ semicolon ∷ []) before ∙ assigned_is v (Attribute None) att s in
-    record {
-      constants = s.said;
-      statement = statement_says v section (att_line [] att) (mark 58) ls (Attribute None att.name s.said) (λ rest. simp (reading, s.name, s.reads)) refl (att_fine v att s) is;
-      ty = s.type;
-      vals = s.are;
-    }
+    att_says v section None att s (mark 58) ls (λ rest. simp (reading, s.name, s.reads)) refl (att_fine v att s) is
 
 -- of a variable
 pub owned_says : (v : Version) (owner : List ℕ) → IsName owner → (att : Att) → Speaks v att → AttributeReadsBack v Variables (Some owner) att
@@ -116,12 +116,7 @@ owned_says v owner own att s =
     let ls = mark 58 ∷ word (escaped_name att.name) ∷ mark 61 ∷ s.l ∷ commas s.ls in
     let fine : list_all (is_fine v) (l ∷ ls) ≡ true = and_both _ _ (word_fine v (escaped_name owner)) (att_fine v att s) in
     let is : shape v Variables (l ∷ ls ++ semicolon ∷ []) ≡ Some (Attribute (Some owner) att.name s.said) = rw ((name_word owner own).stands) (assigned_is v (Attribute (Some owner)) att s) in
-    record {
-      constants = s.said;
-      statement = statement_says v Variables (att_line (escaped_name owner) att) l ls (Attribute (Some owner) att.name s.said) (λ rest. simp (reading, s.name, s.reads)) (name_starts owner own) fine is;
-      ty = s.type;
-      vals = s.are;
-    }
+    att_says v Variables (Some owner) att s l ls (λ rest. simp (reading, s.name, s.reads)) (name_starts owner own) fine is
 
 -- ---- the declaration of a variable
 

@@ -1,7 +1,7 @@
 -- The opening, the section marks and the closing brace of a dump.
-use Rattle.cdl_laws.proofs.Prelude.{◌≡◌, ℕ, subst, None, ◌+◌, true, false, List, [], ◌∷◌, ◌++◌, length, map, ◌∙◌, ap, refl, arith, append_assoc, length-append, ◌==◌, Some, Ok, codes, rules, if◌then◌else◌, suc, false≢true, eqb-true, concat_parts, Att, Dim, Var, Version, escaped_name, is_reserved, name_of, is_plain, dim_line, dim_lines, dims_text, att_line, att_lines, var_lines, vars_text, gatts_text, dimensions_word, variables_word, global_word, IsName, Section, Globals, Dimensions, Variables, Values, Ended, scan, word_len, len_until, piece_read, empty, pieces_after, is_section, cut_lexemes, lexemes_at, lexemes, pieces_of, trimmed_att, Enter, shape, State, Draft, act, in_turn, globals, dimensions, variables, and_left, until_at_start, lt-ltb, not_none, IsStatement, map-id, DeclareDimensions, said_dim, add_dim, ◌>>=◌}
+use Rattle.cdl_laws.proofs.Prelude.{EachAfter, nat_lt, ◌&&◌, section_number, ◌≡◌, ℕ, subst, None, ◌+◌, true, false, List, [], ◌∷◌, ◌++◌, length, map, ◌∙◌, ap, refl, arith, append_assoc, length-append, ◌==◌, Some, Ok, codes, rules, if◌then◌else◌, suc, false≢true, eqb-true, concat_parts, Att, Dim, Var, Version, escaped_name, is_reserved, name_of, is_plain, dim_line, dim_lines, dims_text, att_line, att_lines, var_lines, vars_text, gatts_text, dimensions_word, variables_word, global_word, IsName, Section, Globals, Dimensions, Variables, Values, Ended, scan, word_len, len_until, piece_read, empty, pieces_after, is_section, cut_lexemes, lexemes_at, lexemes, pieces_of, trimmed_att, Enter, shape, State, Draft, act, in_turn, globals, dimensions, variables, and_left, until_at_start, lt-ltb, not_none, IsStatement, map-id, DeclareDimensions, said_dim, add_dim, ◌>>=◌}
 use Rattle.cdl_tokens.specs.declared.token.TokenKind.TheVariants as kinds
-use Rattle.cdl_laws.proofs.Readings.{rest_of, marked, bare, begins, mark, word, prefix_again, some_name, marks_closed, turn, until_plain, Takes, says_takes, takes_both, takes_nothing, is_open, state, AreNewDims, IsNewDim, AreNewAtts, atts_taken, global_says, dim_says, AreFit, IsFit, all_taken, var_taken, draft_of}
+use Rattle.cdl_laws.proofs.Readings.{rest_of, marked, bare, begins, mark, word, prefix_again, some_name, marks_closed, turn, until_plain, Takes, says_takes, takes_both, takes_nothing, state, IsNewDim, AreNewAtts, atts_taken, global_says, dim_says, IsFit, all_taken, var_taken, draft_of}
 use Rattle.cdl_laws.proofs.Acts as acts
 
 -- ---- section marks
@@ -31,7 +31,7 @@ headed : (v : Version) (head : List ℕ) (lines : List (List ℕ)) (n : ℕ) (s 
 unfolding concat_parts
 headed v head lines n s t u p q = search (rules, not_none, takes_both)
 
-pub dims_part : (v : Version) (n : ℕ) (dims : List Dim) (gatts : List Att) (drafts : List Draft) → AreNewDims v [] dims →
+pub dims_part : (v : Version) (n : ℕ) (dims : List Dim) (gatts : List Att) (drafts : List Draft) → EachAfter (λ d. d) (IsNewDim v) [] dims →
     Takes v (dims_text n dims) (state Globals [] gatts drafts) (state (after_dims dims) dims gatts drafts)
 unfolding dims_text dim_lines act
 dims_part v n [] gatts drafts h = takes_nothing v (state Globals [] gatts drafts)
@@ -51,7 +51,7 @@ unfolding variables_word pieces_of lexemes_at scan word_len pieces_after is_sect
 variables_says v dims =
     record { piece = word (codes "variables") ∷ mark 58 ∷ []; cut = λ rest. refl; says = record { sound = refl; shaped = grind arith } }
 
-pub vars_part : (v : Version) (dims : List Dim) (vars : List Var) (gatts : List Att) → acts.AreDistinctDims dims → acts.HaveNames dims → AreFit v dims [] vars →
+pub vars_part : (v : Version) (dims : List Dim) (vars : List Var) (gatts : List Att) → acts.AreDistinctDims dims → acts.HaveNames dims → EachAfter draft_of (λ done w. IsFit v dims w × acts.no_draft w.name done) [] vars →
     Takes v (vars_text dims vars) (state (after_dims dims) dims gatts []) (state (after_vars (after_dims dims) vars) dims gatts (map draft_of vars))
 unfolding vars_text act
 vars_part v dims [] gatts distinct names fit = takes_nothing v (state (after_dims dims) dims gatts [])
@@ -77,7 +77,8 @@ gatts_part v dims vars (a ∷ gatts) drafts new =
 
 -- ---- the end
 
-pub end_taken : (v : Version) (section : Section) (dims : List Dim) (gatts : List Att) (drafts : List Draft) → is_open section ≡ true → in_turn (piece_read v) (state section dims gatts drafts) (pieces_of (codes "}\n")) ≡ Ok (state Ended dims gatts drafts)
+-- the closing brace ends any section
+pub end_taken : (v : Version) (section : Section) (dims : List Dim) (gatts : List Att) (drafts : List Draft) → (nat_lt 0 (section_number section) && nat_lt (section_number section) 5) ≡ true → in_turn (piece_read v) (state section dims gatts drafts) (pieces_of (codes "}\n")) ≡ Ok (state Ended dims gatts drafts)
 unfolding pieces_of lexemes_at scan pieces_after piece_read shape act
 end_taken v section dims gatts drafts h = grind arith
 

@@ -17,7 +17,7 @@ unfoldable pub use Rattle.cdl_statements.specs.Lexemes.{name_of}
 pub use Rattle.cdl_statements.specs.Pieces.{first_role, role, section_of, statements, step, with_first}
 unfoldable pub use Rattle.cdl_statements.specs.Pieces.{is_section, pieces_after}
 pub use Rattle.cdl_statements.specs.code.Cutters.{is_end_role}
-pub use Rattle.cdl_statements.specs.Shapes.{Attribute, Close, Characters, DeclareDimensions, Dimension, End, Listed, Enter, Number, Open, Statement, DeclareVariables, Underscore, Value, Variable, after_member, assigned, at_end, attribute_or_mark, both, constant, constants, first_bad, if_so, in_parentheses, other_statement, section_mark, token_fault}
+pub use Rattle.cdl_statements.specs.Shapes.{Attribute, Close, Characters, DeclareDimensions, Dimension, End, Listed, Enter, Number, Open, Statement, DeclareVariables, Underscore, Value, Variable, after_member, assigned, at_end, attribute_or_mark, both, constant, constants, first_bad, if_so, in_parentheses, other_statement, section_mark, section_number, token_fault}
 unfoldable pub use Rattle.cdl_statements.specs.Shapes.{shape}
 pub use Rattle.cdl_statements.specs.declared.{fault.CdlFault.CdlFault, fault.CdlKind.CdlKind, piece.CutState.CutState, piece.Role.Role, section.Section.Section}
 pub use Rattle.cdl_statements.specs.declared.fault.CdlKind.TheVariants.{BadName, BadNumber, BadShape, BadToken, DuplicateData, DuplicateName, FloatingType, MixedConstants, NumberRange, StringTooLong, Syntax, TooLarge, TooManyValues, TwoRecordDims, UnknownDimension, UnknownType, UnknownVariable, WrongKind, ZeroDimension}

@@ -14,9 +14,7 @@ is_array : (d : Dataset) (records place : ℕ) (var : Var) → IsSayable d → d
     slice_get d.header.vars place ≡ Some var → IsArray d.header.dims records var (slice_index_or d.arrays place [])
 is_array d records place var s known at =
     let e : Known s.good.records ≡ Known records = sym (ap (λ (h : Header). h.numrecs) s.good.is_bare) ∙ known in
-    let same : s.good.records ≡ records = cc in
-    array_in_place d.header.dims records d.header.vars d.arrays place var
-    (subst (λ n. AreArrays d.header.dims n d.header.vars d.arrays) same s.good.arrays) at
+    grind (arith, array_in_place d.header.dims records d.header.vars d.arrays place var, e, s.good.arrays)
 
 -- ---- rows
 

@@ -43,9 +43,7 @@ one_good : (v : Version) (takes_fill : Bool) (l : Lexeme) → HasBytes l → Som
 one_good v takes_fill l h = grind (arith, some_map, stands_fine, each_take, each_drop)
 
 constants_good : (v : Version) (takes_fill : Bool) (ls : List Lexeme) → Each HasBytes ls → SomeIs (Each IsFineValue) (constants v takes_fill ls)
-constants_good v takes_fill (l ∷ c ∷ ls) h =
-    some_both IsFineValue (Each IsFineValue) (Each IsFineValue) (λ a xs. a ∷ xs) (constant v takes_fill l) (after_member (constants v takes_fill ls) c ls)
-    (one_good v takes_fill l h.0) (member_some (Each IsFineValue) (constants v takes_fill ls) c ls tt (constants_good v takes_fill ls h.1.1)) (λ a xs p q. (p, q))
+constants_good v takes_fill (l ∷ c ∷ ls) h = search (rules, some_both IsFineValue (Each IsFineValue) (Each IsFineValue), one_good v takes_fill l h.0, member_some, constants_good v takes_fill ls h.1.1)
 constants_good v takes_fill _ h = tt
 
 -- ---- statements
@@ -60,20 +58,15 @@ ended st ls h = grind arith
 
 assigned_says : (v : Version) (takes_fill : Bool) (f : List ℕ → List Value → Statement) (ls : List Lexeme) → Each HasBytes ls →
     ((name : List ℕ) (cs : List Value) → Each IsFineValue cs → IsSaid (f name cs)) → SomeIs IsSaid (assigned v takes_fill f ls)
-assigned_says v takes_fill f (n ∷ e ∷ ls) h g =
-    some_given IsSaid (is_mark 0x3d e) (both f (name_of n) (constants v takes_fill ls)) (λ q.
-    some_both (λ (name : List ℕ). Unit {0}) (Each IsFineValue) IsSaid f (name_of n) (constants v takes_fill ls) (some_any (name_of n)) (constants_good v takes_fill ls h.1.1) (λ name cs u fine. g name cs fine))
+assigned_says v takes_fill f (n ∷ e ∷ ls) h g = search (rules, some_given, some_both (λ (name : List ℕ). Unit {0}) (Each IsFineValue) IsSaid, some_any, constants_good v takes_fill ls h.1.1, g)
 assigned_says v takes_fill f _ h g = tt
 
 marks_say : (before : Section) (l : Lexeme) (ls : List Lexeme) → SomeIs IsSaid (section_mark before l ls)
 marks_say before l (c ∷ []) = grind arith
 marks_say before l _ = grind arith
 
-attribute_says : (v : Version) (o : Option (List ℕ)) (ls : List Lexeme) → Each HasBytes ls → SomeIs IsSaid (assigned v false (Attribute o) ls)
-attribute_says v o ls h = assigned_says v false (Attribute o) ls h (λ name cs fine. fine)
-
 owned_says : (v : Version) (l : Lexeme) (o : Option (List ℕ)) (c : Lexeme) (ls : List Lexeme) → Each HasBytes ls → SomeIs IsSaid (attribute_or_mark v l o (c ∷ ls))
-owned_says v l o c ls h = grind (arith, attribute_says v o ls h, marks_say Variables l (c ∷ ls))
+owned_says v l o c ls h = grind (arith, assigned_says v false (Attribute o) ls h (λ name cs fine. fine), marks_say Variables l (c ∷ ls))
 
 other_says : (v : Version) (section : Section) (l : Lexeme) (ls : List Lexeme) → Each HasBytes ls → SomeIs IsSaid (other_statement v section l ls)
 other_says v Globals l ls h = marks_say Globals l ls
@@ -88,7 +81,7 @@ shape_says v Unopened (l ∷ ls) h = search (rules, some_given, ended)
 shape_says v Closed (l ∷ ls) h = search (rules, some_given, ended)
 shape_says v Ended (l ∷ ls) h = tt
 shape_says v Values (l ∷ ls) h = search (rules, in_if (SomeIs IsSaid), ended, assigned_says v true Listed (l ∷ ls) h (λ name cs fine. tt))
-shape_says v section (l ∷ ls) h = search (rules, in_if (SomeIs IsSaid), ended, attribute_says v None ls h.1, other_says v section l ls h.1)
+shape_says v section (l ∷ ls) h = search (rules, in_if (SomeIs IsSaid), ended, assigned_says v false (Attribute None) ls h.1 (λ name cs fine. fine), other_says v section l ls h.1)
 
 pub piece_bytes : (text : List ℕ) (p : List Token) → Each IsByte text → Each HasBytes (map (lexeme text) p)
 piece_bytes text [] h = tt

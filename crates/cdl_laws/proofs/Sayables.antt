@@ -1,6 +1,6 @@
 -- What a dataset that a text can declare gives for each of its parts.
 use Rattle.cdl_laws.proofs.Prelude.{◌≡◌, ℕ, ◌+◌, ◌^◌, ◌<◌, ◌≤◌, Bool, true, false, List, [], ◌∷◌, ◌++◌, length, map, ap, refl, arith, append_assoc, ◌||◌, ◌==◌, All, filter, rules, list_any, bytes_eq, false≢true, list_any-append, bytes_eq-Decides, AreBytes, Att, Dim, Var, Version, has_name, has_record_dim, IsSoundAtt, IsSoundDim, IsName, count_limit, AreDistinct, HasSomeNumber, trimmed_att, Draft, Each, each_of, EachAfter, or_left, or_right}
-use Rattle.cdl_laws.proofs.Readings.{record_once, is_new_att, Speaks, AreNewDims, AreNewAtts}
+use Rattle.cdl_laws.proofs.Readings.{record_once, is_new_att, Speaks, IsNewDim, AreNewAtts}
 use Rattle.cdl_laws.proofs.Attributes.{speaks}
 
 -- ---- names
@@ -61,7 +61,7 @@ once done d ds h zero_len = grind (arith, some_record, filter_append)
 abbrev pub dim_name : Dim → List ℕ
 dim_name d = d.name
 
-pub new_dims : (v : Version) (done ds : List Dim) → AreFresh dim_name done (map dim_name ds) → AreDistinct (map dim_name ds) → Each (IsSoundDim v) ds → Each (λ (d : Dim). IsName d.name) ds → length (filter is_record (done ++ ds)) ≤ 1 → AreNewDims v done ds
+pub new_dims : (v : Version) (done ds : List Dim) → AreFresh dim_name done (map dim_name ds) → AreDistinct (map dim_name ds) → Each (IsSoundDim v) ds → Each (λ (d : Dim). IsName d.name) ds → length (filter is_record (done ++ ds)) ≤ 1 → EachAfter (λ d. d) (IsNewDim v) done ds
 new_dims v done [] fresh distinct sound names few = tt
 new_dims v done (d ∷ ds) fresh distinct sound names few =
     let a : count_limit v < 2 ^ 64 = grind arith in

@@ -75,14 +75,6 @@ fine_says : (v : Version) (ls : List Lexeme) → list_all (is_fine v) ls ≡ tru
 fine_says v [] h = (refl, refl)
 fine_says v (l ∷ ls) h = grind (arith, and_left, and_both, is_plain, is_none, fine_says v ls (and_right (is_fine v l) (list_all (is_fine v) ls) h))
 
--- the sections that have statements to a semicolon
-abbrev pub is_open : Section → Bool
-is_open Globals = true
-is_open Dimensions = true
-is_open Variables = true
-is_open Values = true
-is_open _ = false
-
 -- a statement to its semicolon
 pub statement_says : (v : Version) (section : Section) (bytes : List ℕ) (a : Lexeme) (p : List Lexeme) (statement : Statement) → texts.Closed bytes (a ∷ p ++ semicolon ∷ []) → is_starter (role a) ≡ true →
     list_all (is_fine v) (a ∷ p) ≡ true → shape v section (a ∷ p ++ semicolon ∷ []) ≡ Some statement → IsStatement v section bytes statement

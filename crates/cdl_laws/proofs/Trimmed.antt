@@ -34,27 +34,21 @@ pub map_once : {X : Type 0} (f : X → X) → ((x : X) → f (f x) ≡ f x) → 
 map_once f e [] = refl
 map_once f e (x ∷ xs) = ap (λ y. y ∷ map f (map f xs)) (e x) ∙ ap (λ ys. f x ∷ ys) (map_once f e xs)
 
-pub var_once : (var : Var) → trimmed_var (trimmed_var var) ≡ trimmed_var var
-var_once var = ap (λ (atts : List Att). record var { atts = atts }) (map_once trimmed_att att_once var.atts)
-
 pub trims_once : TrimsOnce
 trims_once d = search (rules, bytes_once, map_once, att_once)
 
 -- ---- still sayable
 
 -- as many values as before, or fewer
-whole_still : (limit size : ℕ) (char : Bool) (vals : List ℕ) (n : ℕ) → (char ≡ true → size ≡ 1) → n < limit → length vals ≡ n * size →
-    (m : ℕ) × (m < limit) × (length (if char then without_trailing_nuls vals else vals) ≡ m * size)
-whole_still limit size false vals n one few whole = (n, few, whole)
-whole_still limit size true vals n one few whole =
-    let fewer = length-take (length vals - suffix_len nul vals) vals in
-    let single = one refl in
-    (length (without_trailing_nuls vals), grind (arith, fewer, single), grind (arith, single))
-
 att_sound : (v : Version) (att : Att) → IsSoundAtt v att → IsSoundAtt v (trimmed_att att)
 att_sound v att s =
-    let r = whole_still (count_limit v) (size_of att.ty) (is_char att.ty) att.vals s.values.count (λ char. grind (arith, char)) s.values.counted s.values.whole in
-    record { name_len = s.name_len; ty = s.ty; values = record { count = r.0; counted = r.1; whole = r.2 } }
+    elim (is_char att.ty) as (λ b. is_char att.ty ≡ b → IsSoundAtt v (record att { vals = if b then without_trailing_nuls att.vals else att.vals })) [
+      | true ↦ (λ char.
+          let fewer = length-take (length att.vals - suffix_len nul att.vals) att.vals in
+          let single : size_of att.ty ≡ 1 = grind (arith, char) in
+          record { name_len = s.name_len; ty = s.ty; values = record { count = length (without_trailing_nuls att.vals); counted = grind (arith, fewer, single, s.values.counted, s.values.whole); whole = grind (arith, single) } })
+      | false ↦ (λ other. s)
+    ] refl
 
 over_map : {X : Type 0} (P : X → Type 0) (f : X → X) (xs : List X) → ((x : X) → P x → P (f x)) → All P xs → All P (map f xs)
 over_map P f xs g all = all_of P (map f xs) (each_of_map P f xs (each_map P (λ x. P (f x)) xs g (each_of P xs all)))
@@ -99,7 +93,7 @@ trimmed_is_sayable d s = record {
   dims = s.dims;
   gatts = atts_still d.header.gatts s.gatts;
   names = subst AreDistinct (sym (map-map (λ (var : Var). var.name) trimmed_var d.header.vars)) s.names;
-  vars = over_map IsSayableVar trimmed_var d.header.vars (λ var is. record { atts = atts_still var.atts is.atts; fill = λ e. ap fill_value (var_once var) }) s.vars;
+  vars = over_map IsSayableVar trimmed_var d.header.vars (λ var is. record { atts = atts_still var.atts is.atts; fill = λ e. ap (λ (atts : List Att). fill_value (record var { atts = atts })) (map_once trimmed_att att_once var.atts) }) s.vars;
   records = λ e. s.records (map_none trimmed_var (record_vars d.header.dims d.header.vars) (sym (record_trimmed d.header.dims d.header.vars) ∙ e));
 }
 
@@ -123,10 +117,7 @@ lone (b ∷ []) s l e = grind arith
 lone _ s l e = grind (arith, false≢true)
 
 cut_changes : (vals : List ℕ) → cut_by vals ≡ true → fill_by Char (without_trailing_nuls vals) ≡ fill_by Char vals → ⊥
-cut_changes vals h e =
-    let a : (length (without_trailing_nuls vals) == 1) ≡ true = and_left (length (without_trailing_nuls vals) == 1) (nat_lt 1 (length vals)) h in
-    let b : 1 < length vals = grind (arith, and_right (length (without_trailing_nuls vals) == 1) (nat_lt 1 (length vals)) h) in
-    grind (arith, lone (without_trailing_nuls vals) (none_left vals) a, none_left vals)
+cut_changes vals h e = grind (arith, and_left, and_right, lone (without_trailing_nuls vals) (none_left vals))
 
 pub fill_value_survives_trim : FillValueSurvivesTrim
 unfolding fill_value

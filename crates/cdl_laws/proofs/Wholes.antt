@@ -26,9 +26,6 @@ IsNewDim v done d =
     IsName d.name × (list_any (λ (e : Dim). bytes_eq e.name d.name) done ≡ false) × (d.len < count_limit v) ×
     (d.len < 2 ^ 64) × record_once done d.len
 
-abbrev pub AreNewDims : Version → List Dim → List Dim → Type 0
-AreNewDims v done ds = EachAfter (λ d. d) (IsNewDim v) done ds
-
 -- ---- attributes
 
 -- attributes whose lines can be read, none of which has the name of one before
@@ -57,9 +54,6 @@ pub record IsFit (v : Version) (dims : List Dim) (var : Var) : Type 0 where
 -- more the state has it after its declaration and attributes
 abbrev pub draft_of : Var → Draft
 draft_of var = record { var = trimmed_var var; listed = None }
-
-abbrev pub AreFit : Version → List Dim → List Draft → List Var → Type 0
-AreFit v dims before vars = EachAfter draft_of (λ done var. IsFit v dims var × no_draft var.name done) before vars
 
 pub declared : (v : Version) (dims : List Dim) (var : Var) → IsName var.name → AreDimids dims [] var.dimids → HaveNames dims → AreDistinctDims dims → has_type v var.ty ≡ true → DeclarationReadsBack v dims var
 unfolding type_of var_lines concat_parts

@@ -1,4 +1,4 @@
-use Rattle.cdl_laws.proofs.Prelude.{◌≡◌, ℕ, List, [], ◌∷◌, ◌++◌, refl, arith, slice_index_or, Some, concat_parts, Dim, Version, netcdf_word, IsName, Section, Globals, Dimensions, Variables, Values, scan, pieces_after, Close, shape, SaysStatement, opening_line, opening_piece, brace_piece, AttributeReadsBack, cut_lexemes, lexemes, lexemes_at, pieces_of, Each, all_of, each_map, each_of}
+use Rattle.cdl_laws.proofs.Prelude.{rules, ◌≡◌, ℕ, List, [], ◌∷◌, ◌++◌, refl, arith, slice_index_or, Some, concat_parts, Dim, Version, netcdf_word, IsName, Section, Globals, Dimensions, Variables, Values, scan, pieces_after, Close, shape, SaysStatement, opening_line, opening_piece, brace_piece, AttributeReadsBack, cut_lexemes, lexemes, lexemes_at, pieces_of, Each, all_of, each_map, each_of}
 use Rattle.cdl_laws.proofs.Readings.{dim_says, Speaks, global_says, owned_says, pieces_are, declared}
 use Rattle.cdl_laws.proofs.Ends.{dimensions_says, variables_says, data_says, opening_lexemes, comment_back}
 use Rattle.cdl_laws.proofs.Sayables.{atts_speak}
@@ -14,10 +14,6 @@ opening_back : (name rest : List ℕ) → IsName name → cut_lexemes (lexemes (
 unfolding pieces_of pieces_after concat_parts netcdf_word
 opening_back name rest h = rw (opening_lexemes name rest h)
 
-closes : (v : Version) → Each (λ (section : Section). SaysStatement v section brace_piece Close) (Globals ∷ Dimensions ∷ Variables ∷ Values ∷ [])
-unfolding shape
-closes v = (record { sound = refl; shaped = refl }, (record { sound = refl; shaped = refl }, (record { sound = refl; shaped = refl }, (record { sound = refl; shaped = refl }, tt))))
-
 pub returns-clause-marks : goal.returns-clause-marks
 unfolding pieces_of lexemes_at scan pieces_after shape
 returns-clause-marks c = λ v. record {
@@ -29,7 +25,7 @@ returns-clause-marks c = λ v. record {
   values = data_says v;
   comment = comment_back;
   closing = refl;
-  closes = all_of (λ (section : Section). SaysStatement v section brace_piece Close) (Globals ∷ Dimensions ∷ Variables ∷ Values ∷ []) (closes v);
+  closes = all_of (λ (section : Section). SaysStatement v section brace_piece Close) (Globals ∷ Dimensions ∷ Variables ∷ Values ∷ []) (search rules);
   ends = record { sound = refl; shaped = refl };
 }
 
