@@ -1,7 +1,7 @@
 -- A dataset that a text can declare is read back from its full dump.
 use Rattle.cdl_laws.proofs.Prelude.{rules, IsArray, option_map, ◌≡◌, ℕ, ◌+◌, ◌*◌, ◌-◌, ◌/◌, ◌<◌, true, List, [], ◌∷◌, ◌++◌, map, ◌∙◌, ap, refl, arith, append_assoc, slice_index_or, ◌⊎◌, drop, sym, subst, KeepsFill, mul-add-div, div-eq_of_lt, Dataset, Dim, Var, values_in_dataset, AreArrays, IsName, slab_count, record_vars, trimmed_var, array_of, records_in, Draft, Each, list_all, record_size_of, padded_size, has_small_array, and_both, le-leb, AreDistinct, Att, get_or-drop, drop-drop, variables_text, shown_data, Values, whole, has_values, look_of, map-map}
 use Rattle.cdl_laws.proofs.Given.{is_back}
-use Rattle.cdl_laws.proofs.Readings.{Takes, takes_nothing, state, draft_of}
+use Rattle.cdl_laws.proofs.Readings.{Takes, state, draft_of}
 use Rattle.cdl_laws.proofs.Sayables.{AreFresh, fresh_more, draft_name, var_name}
 use Rattle.cdl_laws.proofs.DataTexts.{given_draft, all_marked, one_taken}
 
@@ -25,7 +25,7 @@ pub record AreBack (d : Dataset) (n width place : ℕ) (vars : List Var) (arrays
 pub are_back : (d : Dataset) (n width place : ℕ) (vars : List Var) (arrays : List (List ℕ)) → drop place d.arrays ≡ arrays → AreArrays d.header.dims n vars arrays →
     Each (λ (var : Var). IsName var.name × KeepsFill var × (0 < slab_count d.header.dims var)) vars → AreBack d n width place vars arrays
 are_back d n width place [] [] at are all =
-    record { drafts = []; vars_are = refl; arrays_are = refl; small = refl; records = grind arith; taken = λ gatts before fresh distinct. takes_nothing d.header.version _ }
+    record { drafts = []; vars_are = refl; arrays_are = refl; small = refl; records = grind arith; taken = λ gatts before fresh distinct. λ rest. refl }
 are_back d n width place (var ∷ vars) (a ∷ arrays) at are all =
     let h = d.header in
     let array = slice_index_or d.arrays place [] in

@@ -120,9 +120,6 @@ owned_says v owner own att s =
 
 -- ---- the declaration of a variable
 
-abbrev pub AreNames : List (List ℕ) → Type 0
-AreNames names = Each IsName names
-
 abbrev pub name_lexemes : List (List ℕ) → List Lexeme
 name_lexemes names = map (λ name. word (escaped_name name)) names
 
@@ -138,7 +135,7 @@ names_fine v (n ∷ ns) =
 
 -- ---- a declaration
 
-shape_closed : (dims : List Dim) (ids : List ℕ) (names : List (List ℕ)) → map (dim_name dims) ids ≡ map escaped_name names → AreNames names →
+shape_closed : (dims : List Dim) (ids : List ℕ) (names : List (List ℕ)) → map (dim_name dims) ids ≡ map escaped_name names → Each IsName names →
     Closed (shape_text dims ids) (shape_lexemes names)
 unfolding shape_text concat_parts
 shape_closed dims [] [] same all rest = refl
@@ -152,19 +149,19 @@ unfolding shape_text concat_parts
 shape_stops dims [] rest = refl
 shape_stops dims (k ∷ ids) rest = rw (not_none (length ids))
 
-names_in : (f : List (List ℕ) → Variable) (n : List ℕ) (ns : List (List ℕ)) → AreNames (n ∷ ns) →
+names_in : (f : List (List ℕ) → Variable) (n : List ℕ) (ns : List (List ℕ)) → Each IsName (n ∷ ns) →
     in_parentheses f (word (escaped_name n) ∷ (commas (name_lexemes ns) ++ mark 41 ∷ []) ++ semicolon ∷ []) ≡ Some (f (n ∷ ns) ∷ [])
 names_in f n [] h = rw ((name_word n h.0).stands) refl
 names_in f n (m ∷ ns) h = rw ((name_word n h.0).stands) (names_in (λ ds. f (n ∷ ds)) m ns h.1)
 
-line_is : (v : Version) (ty : NcType) (name : List ℕ) (names : List (List ℕ)) → IsName name → AreNames names →
+line_is : (v : Version) (ty : NcType) (name : List ℕ) (names : List (List ℕ)) → IsName name → Each IsName names →
     shape v Variables (word (type_word ty) ∷ word (escaped_name name) ∷ (shape_lexemes names ++ semicolon ∷ [])) ≡ Some
     (DeclareVariables (word (type_word ty)) (record { name = name; dimensions = names } ∷ []))
 unfolding shape
 line_is v ty name [] h all = simp name_stands
 line_is v ty name (n ∷ ns) h all = simp (name_stands, names_in (λ ds. record { name = name; dimensions = ds }) n ns all)
 
-pub declaration_says : (v : Version) (dims : List Dim) (var : Var) (names : List (List ℕ)) → map (dim_name dims) var.dimids ≡ map escaped_name names → IsName var.name → AreNames names →
+pub declaration_says : (v : Version) (dims : List Dim) (var : Var) (names : List (List ℕ)) → map (dim_name dims) var.dimids ≡ map escaped_name names → IsName var.name → Each IsName names →
     IsStatement v Variables (declaration dims var) (DeclareVariables (word (type_word var.ty)) (record { name = var.name; dimensions = names } ∷ []))
 unfolding concat_parts
 declaration_says v dims var names same h all =

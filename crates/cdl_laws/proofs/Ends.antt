@@ -1,7 +1,7 @@
 -- The opening, the section marks and the closing brace of a dump.
 use Rattle.cdl_laws.proofs.Prelude.{EachAfter, nat_lt, ◌&&◌, section_number, ◌≡◌, ℕ, subst, None, ◌+◌, true, false, List, [], ◌∷◌, ◌++◌, length, map, ◌∙◌, ap, refl, arith, append_assoc, length-append, ◌==◌, Some, Ok, codes, rules, if◌then◌else◌, suc, false≢true, eqb-true, concat_parts, Att, Dim, Var, Version, escaped_name, is_reserved, name_of, is_plain, dim_line, dim_lines, dims_text, att_line, att_lines, var_lines, vars_text, gatts_text, dimensions_word, variables_word, global_word, IsName, Section, Globals, Dimensions, Variables, Values, Ended, scan, word_len, len_until, piece_read, empty, pieces_after, is_section, cut_lexemes, lexemes_at, lexemes, pieces_of, trimmed_att, Enter, shape, State, Draft, act, in_turn, globals, dimensions, variables, and_left, until_at_start, lt-ltb, not_none, IsStatement, map-id, DeclareDimensions, said_dim, add_dim, ◌>>=◌}
 use Rattle.cdl_tokens.specs.declared.token.TokenKind.TheVariants as kinds
-use Rattle.cdl_laws.proofs.Readings.{rest_of, marked, bare, begins, mark, word, prefix_again, some_name, marks_closed, turn, until_plain, Takes, says_takes, takes_both, takes_nothing, state, IsNewDim, AreNewAtts, atts_taken, global_says, dim_says, IsFit, all_taken, var_taken, draft_of}
+use Rattle.cdl_laws.proofs.Readings.{rest_of, marked, bare, begins, mark, word, prefix_again, some_name, marks_closed, turn, until_plain, Takes, says_takes, takes_both, state, IsNewDim, AreNewAtts, atts_taken, global_says, dim_says, IsFit, all_taken, var_taken, draft_of}
 use Rattle.cdl_laws.proofs.Acts as acts
 
 -- ---- section marks
@@ -34,7 +34,7 @@ headed v head lines n s t u p q = search (rules, not_none, takes_both)
 pub dims_part : (v : Version) (n : ℕ) (dims : List Dim) (gatts : List Att) (drafts : List Draft) → EachAfter (λ d. d) (IsNewDim v) [] dims →
     Takes v (dims_text n dims) (state Globals [] gatts drafts) (state (after_dims dims) dims gatts drafts)
 unfolding dims_text dim_lines act
-dims_part v n [] gatts drafts h = takes_nothing v (state Globals [] gatts drafts)
+dims_part v n [] gatts drafts h = λ rest. refl
 dims_part v n (d ∷ dims) gatts drafts h =
     headed v dimensions_word (map (dim_line n) (d ∷ dims)) (length dims) _ _ _
     (says_takes v dimensions_word (Enter Dimensions) _ _ (dimensions_says v) refl)
@@ -54,7 +54,7 @@ variables_says v dims =
 pub vars_part : (v : Version) (dims : List Dim) (vars : List Var) (gatts : List Att) → acts.AreDistinctDims dims → acts.HaveNames dims → EachAfter draft_of (λ done w. IsFit v dims w × acts.no_draft w.name done) [] vars →
     Takes v (vars_text dims vars) (state (after_dims dims) dims gatts []) (state (after_vars (after_dims dims) vars) dims gatts (map draft_of vars))
 unfolding vars_text act
-vars_part v dims [] gatts distinct names fit = takes_nothing v (state (after_dims dims) dims gatts [])
+vars_part v dims [] gatts distinct names fit = λ rest. refl
 vars_part v dims (var ∷ vars) gatts distinct names fit =
     headed v variables_word (map (var_lines dims) (var ∷ vars)) (length vars) _ _ _
     (says_takes v variables_word (Enter Variables) _ _ (variables_says v dims) refl)
@@ -68,7 +68,7 @@ comment_back rest = refl
 pub gatts_part : (v : Version) (dims : List Dim) (vars : List Var) (gatts : List Att) (drafts : List Draft) → AreNewAtts v gatts →
     Takes v (gatts_text gatts) (state (after_vars (after_dims dims) vars) dims [] drafts) (state (after_vars (after_dims dims) vars) dims (map trimmed_att gatts) drafts)
 unfolding gatts_text att_lines act
-gatts_part v dims vars [] drafts new = takes_nothing v (state (after_vars (after_dims dims) vars) dims [] drafts)
+gatts_part v dims vars [] drafts new = λ rest. refl
 gatts_part v dims vars (a ∷ gatts) drafts new =
     let section = after_vars (after_dims dims) vars in
     let now : List Att → State = λ done. state section dims done drafts in

@@ -1,5 +1,5 @@
 -- The values that the text of a variable lists give its array.
-use Rattle.cdl_laws.proofs.Prelude.{nothing, ◌≡◌, ℕ, suc, List, [], ◌∷◌, sym, ◌∙◌, ap, subst, arith, All, Some, slice_get, slice_index_or, rules, Dataset, Att, Dim, Header, Known, Var, fill_value, IsArray, AreArrays, value_count, IsName, IsSayable, IsSayableVar, trimmed_var, filled, all-at, takes_of}
+use Rattle.cdl_laws.proofs.Prelude.{nothing, ◌≡◌, ℕ, suc, List, [], ◌∷◌, sym, ◌∙◌, ap, arith, All, Some, slice_get, slice_index_or, rules, Dataset, Att, Dim, Header, Known, Var, fill_value, IsArray, AreArrays, value_count, IsName, IsSayable, IsSayableVar, trimmed_var, filled, all-at, takes_of}
 use Rattle.cdl_laws.specs.RowLaws.{RowsReadBack, EmptyRowsReadBack}
 use Rattle.cdl_laws.proofs.Given.{row_back, same_fill, array_gives}
 

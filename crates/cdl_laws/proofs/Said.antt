@@ -1,5 +1,5 @@
 -- What the statements of a text of bytes say: the characters of their constants are bytes.
-use Rattle.cdl_laws.proofs.Prelude.{◌≡◌, Bool, true, arith, if◌then◌else◌, Option, None, Some, ℕ, ◌-◌, false, List, [], ◌∷◌, zero, suc, drop, map, rules, option_map, both, if_so, Version, character, unescape_at, or_zero, Lexeme, is_mark, name_of, Value, Characters, at_end, after_member, constant, constants, Each, each_drop, each_take, IsByte, lexeme, Statement, Attribute, Listed, attribute_or_mark, assigned, other_statement, section_mark, shape, Section, Unopened, Globals, Dimensions, Variables, Values, Closed, Ended, Token}
+use Rattle.cdl_laws.proofs.Prelude.{◌≡◌, Bool, true, arith, if◌then◌else◌, Option, None, Some, ℕ, ◌-◌, false, List, [], ◌∷◌, zero, suc, drop, map, rules, option_map, both, if_so, Version, character, unescape_at, or_zero, Lexeme, name_of, Value, Characters, at_end, after_member, constant, constants, Each, each_drop, each_take, IsByte, lexeme, Statement, Attribute, Listed, attribute_or_mark, assigned, other_statement, section_mark, shape, Section, Unopened, Globals, Dimensions, Variables, Values, Closed, Ended, Token}
 
 abbrev pub SomeIs : {A : Type 0} → (A → Type 0) → Option A → Type 0
 SomeIs P None = Unit {0}

@@ -1,5 +1,5 @@
 -- What a text makes of a state, statement by statement.
-use Rattle.cdl_laws.proofs.Prelude.{◌≡◌, ℕ, Bool, true, false, List, [], ◌∷◌, ◌++◌, ◌∙◌, ap, refl, append_assoc, ◌&&◌, None, Some, is_none, Ok, arith, rules, map, list_all, Version, Section, Globals, Dimensions, Variables, Values, Role, Lexeme, first_role, role, piece_read, pieces_after, step, is_end_role, with_first, cut_lexemes, pieces_of, Statement, first_bad, token_fault, shape, State, act, in_turn, and_left, and_right, and_both, Each, IsStatement, lexemes_at}
+use Rattle.cdl_laws.proofs.Prelude.{◌≡◌, ℕ, Bool, true, false, List, [], ◌∷◌, ◌++◌, ◌∙◌, ap, refl, append_assoc, ◌&&◌, None, Some, is_none, Ok, arith, rules, map, list_all, Version, Section, Role, Lexeme, first_role, role, piece_read, pieces_after, step, is_end_role, with_first, cut_lexemes, pieces_of, Statement, first_bad, token_fault, shape, State, act, in_turn, and_left, and_right, and_both, Each, IsStatement, lexemes_at}
 use Rattle.cdl_statements.specs.declared.piece.Role.TheVariants as roles
 use Rattle.cdl_statements.specs.declared.piece.CutState.TheVariants.{Begins, Inside}
 use Rattle.cdl_laws.proofs.Texts as texts
@@ -47,9 +47,6 @@ one_by_steps t p rest start h = rw (append_assoc p (semicolon ∷ []) rest, begu
 -- the bytes make t of the state s, whatever follows
 abbrev pub Takes : Version → List ℕ → State → State → Type 0
 Takes v bytes s t = (rest : List ℕ) → in_turn (piece_read v) s (pieces_of (bytes ++ rest)) ≡ in_turn (piece_read v) t (pieces_of rest)
-
-pub takes_nothing : (v : Version) (s : State) → Takes v [] s s
-takes_nothing v s rest = refl
 
 pub takes_both : (v : Version) (a b : List ℕ) (s t u : State) → Takes v a s t → Takes v b t u → Takes v (a ++ b) s u
 takes_both v a b s t u p q rest = ap (λ bs. in_turn (piece_read v) s (pieces_of bs)) (append_assoc a b rest) ∙ p (b ++ rest) ∙ q rest

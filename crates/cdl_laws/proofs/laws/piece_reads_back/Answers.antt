@@ -1,4 +1,4 @@
-use Rattle.cdl_laws.proofs.Prelude.{rules, ◌≡◌, ℕ, List, [], ◌∷◌, ◌++◌, refl, arith, slice_index_or, Some, concat_parts, Dim, Version, netcdf_word, IsName, Section, Globals, Dimensions, Variables, Values, scan, pieces_after, Close, shape, SaysStatement, opening_line, opening_piece, brace_piece, AttributeReadsBack, cut_lexemes, lexemes, lexemes_at, pieces_of, Each, all_of, each_map, each_of}
+use Rattle.cdl_laws.proofs.Prelude.{rules, [], ◌∷◌, refl, arith, slice_index_or, Some, concat_parts, Dim, netcdf_word, IsName, Section, Globals, Dimensions, Variables, Values, scan, pieces_after, Close, shape, SaysStatement, brace_piece, AttributeReadsBack, lexemes_at, pieces_of, all_of, each_map, each_of}
 use Rattle.cdl_laws.proofs.Readings.{dim_says, Speaks, global_says, owned_says, pieces_are, declared}
 use Rattle.cdl_laws.proofs.Ends.{dimensions_says, variables_says, data_says, opening_lexemes, comment_back}
 use Rattle.cdl_laws.proofs.Sayables.{atts_speak}
@@ -10,14 +10,10 @@ returns-clause-pieces c = pieces_are
 
 -- ---- marks
 
-opening_back : (name rest : List ℕ) → IsName name → cut_lexemes (lexemes (opening_line name ++ 10 ∷ rest)) ≡ opening_piece name ∷ pieces_of rest
-unfolding pieces_of pieces_after concat_parts netcdf_word
-opening_back name rest h = rw (opening_lexemes name rest h)
-
 pub returns-clause-marks : goal.returns-clause-marks
-unfolding pieces_of lexemes_at scan pieces_after shape
+unfolding pieces_of lexemes_at scan pieces_after shape concat_parts netcdf_word
 returns-clause-marks c = λ v. record {
-  opening = opening_back;
+  opening = λ name rest h. rw (opening_lexemes name rest h);
   opens = λ name. record { sound = refl; shaped = refl };
   dimensions = dimensions_says v;
   variables = variables_says v (record { name = []; len = 0 } ∷ []);
