@@ -15,16 +15,17 @@ named_more : {X : Type 0} (name : X → List ℕ) (xs : List X) (x : X) → AreD
 named_more name xs x d new =
     subst AreDistinct (sym (map-append name xs (x ∷ []))) (distinct_more (map name xs) (name x) d (sym (any_map name (name x) xs) ∙ new))
 
+-- things of which each is fine, and no two have the same name
+pub record AreFine {X : Type 0} (P : X → Type 0) (name : X → List ℕ) (xs : List X) : Type 0 where
+  pub fine : Each P xs
+  pub names : AreDistinct (map name xs)
+
 -- ---- attributes
 
 pub record IsFineAtt (att : Att) : Type 0 where
   pub name : IsName att.name
   pub bytes : Each IsByte att.vals
   pub some : is_char att.ty ≡ false → 0 < length att.vals
-
-pub record AreFineAtts (atts : List Att) : Type 0 where
-  pub fine : Each IsFineAtt atts
-  pub names : AreDistinct (map att_name atts)
 
 -- the values after one constant or more
 record ArePart (ty : NcType) (vals : List ℕ) : Type 0 where
@@ -43,37 +44,29 @@ constants_part (c ∷ cs) fine =
     let ty = first_type (c ∷ cs) in
     grind (arith, constant_step ty [] c tt fine.0, (λ (vals : List ℕ) (part : ArePart ty vals). turns (add_constant ty) (ArePart ty) IsFineValue (λ before x is. constant_step ty before x is.bytes) vals cs part fine.1))
 
-pub att_keeps : (name : List ℕ) (cs : List Value) (atts : List Att) → Each IsFineValue cs → AreFineAtts atts → OkIs AreFineAtts (add_att name cs atts)
+pub att_keeps : (name : List ℕ) (cs : List Value) (atts : List Att) → Each IsFineValue cs → AreFine IsFineAtt att_name atts → OkIs (AreFine IsFineAtt att_name) (add_att name cs atts)
 unfolding add_att
 att_keeps name cs atts said fine =
     grind (arith, constants_part cs said, ok_unless, ok_when, ok_then, each_more, named_more att_name atts)
 
 -- ---- dimensions
 
-pub record AreFineDims (dims : List Dim) : Type 0 where
-  pub fine : Each (λ (d : Dim). IsName d.name) dims
-  pub names : AreDistinct (map dim_name dims)
-
-pub dims_keep : (v : Version) (dims : List Dim) (ds : List Dimension) → AreFineDims dims → OkIs AreFineDims (in_turn (add_dim v) dims ds)
+pub dims_keep : (v : Version) (dims : List Dim) (ds : List Dimension) → AreFine (λ (d : Dim). IsName d.name) dim_name dims → OkIs (AreFine (λ (d : Dim). IsName d.name) dim_name) (in_turn (add_dim v) dims ds)
 unfolding add_dim
 dims_keep v dims ds fine =
-    turns (add_dim v) AreFineDims (λ d. Unit {0}) (λ all d f u. grind (arith, named_more dim_name all, ok_unless, ok_when, ok_next, each_more)) dims ds fine (any_each ds)
+    turns (add_dim v) (AreFine (λ (d : Dim). IsName d.name) dim_name) (λ d. Unit {0}) (λ all d f u. grind (arith, named_more dim_name all, ok_unless, ok_when, ok_next, each_more)) dims ds fine (any_each ds)
 
 -- ---- variables
 
 pub record IsFineDraft (d : Draft) : Type 0 where
   pub name : IsName d.var.name
-  pub atts : AreFineAtts d.var.atts
+  pub atts : AreFine IsFineAtt att_name d.var.atts
   pub bare : d.var.begin_at ≡ 0
 
-pub record AreFineDrafts (drafts : List Draft) : Type 0 where
-  pub fine : Each IsFineDraft drafts
-  pub names : AreDistinct (map draft_name drafts)
-
-pub vars_keep : (dims : List Dim) (ty : NcType) (drafts : List Draft) (xs : List Variable) → AreFineDrafts drafts → OkIs AreFineDrafts (in_turn (add_var dims ty) drafts xs)
+pub vars_keep : (dims : List Dim) (ty : NcType) (drafts : List Draft) (xs : List Variable) → AreFine IsFineDraft draft_name drafts → OkIs (AreFine IsFineDraft draft_name) (in_turn (add_var dims ty) drafts xs)
 unfolding add_var
 vars_keep dims ty drafts xs fine =
-    turns (add_var dims ty) AreFineDrafts (λ x. Unit {0}) (λ all x f u. grind (arith, named_more draft_name all, ok_unless, ok_when, ok_next, each_more)) drafts xs fine (any_each xs)
+    turns (add_var dims ty) (AreFine IsFineDraft draft_name) (λ x. Unit {0}) (λ all x f u. grind (arith, named_more draft_name all, ok_unless, ok_when, ok_next, each_more)) drafts xs fine (any_each xs)
 
 -- ---- the variable of a name
 
@@ -92,6 +85,6 @@ named_keeps P name f step (d ∷ ds) h = grind (arith, ok_then, step d h.0, name
 abbrev pub KeepsFine : (Draft → Result Draft CdlKind) → Type 0
 KeepsFine f = (d : Draft) → IsFineDraft d → OkIs (Renewed IsFineDraft d) (f d)
 
-pub at_keeps : (name : List ℕ) (f : Draft → Result Draft CdlKind) → KeepsFine f → (ds : List Draft) → AreFineDrafts ds → OkIs AreFineDrafts (change_variable name f ds)
+pub at_keeps : (name : List ℕ) (f : Draft → Result Draft CdlKind) → KeepsFine f → (ds : List Draft) → AreFine IsFineDraft draft_name ds → OkIs (AreFine IsFineDraft draft_name) (change_variable name f ds)
 unfolding change_variable
 at_keeps name f step ds fine = grind (arith, named_keeps IsFineDraft name f step ds fine.fine, ok_unless)

@@ -1,14 +1,15 @@
 -- What a text means is good.
 use Rattle.cdl_laws.proofs.Prelude.{ok_when, bytes_each, ◌≡◌, ℕ, List, [], ◌∷◌, map, ap, sym, refl, subst, arith, None, Some, All, rules, AreBytes, Att, Dim, Known, Var, Version, IsGood, bare_var, IsName, record_vars, MeaningsAreGood, MeaningsAreNearlySayable, IsNearlySayable, Lexeme, lexeme, statements, piece_read, run, empty, records_in, dataset_of, header_of, finished, AreDistinct, AreSayableAtts, HasSomeNumber, Statement, DeclareDimensions, DeclareVariables, Attribute, Listed, State, Draft, act, with_att, with_values, Token, IsByte, IsWhole, OkIs, all_of, are_bytes, Each, each_map, meanings_are_whole, ok_next, ok_then, map-map}
 use Rattle.cdl_laws.proofs.Said.{HasBytes, IsSaid, shape_says, piece_bytes}
-use Rattle.cdl_laws.proofs.Fine.{IsFineAtt, AreFineAtts, AreFineDims, IsFineDraft, AreFineDrafts, att_keeps, dims_keep, vars_keep, at_keeps}
+use Rattle.cdl_laws.proofs.Sayables.{att_name, dim_name, draft_name}
+use Rattle.cdl_laws.proofs.Fine.{AreFine, IsFineAtt, IsFineDraft, att_keeps, dims_keep, vars_keep, at_keeps}
 
 -- ---- the run
 
 pub record IsFineState (s : State) : Type 0 where
-  pub dims : AreFineDims s.dims
-  pub gatts : AreFineAtts s.gatts
-  pub drafts : AreFineDrafts s.drafts
+  pub dims : AreFine (λ (d : Dim). IsName d.name) dim_name s.dims
+  pub gatts : AreFine IsFineAtt att_name s.gatts
+  pub drafts : AreFine IsFineDraft draft_name s.drafts
 
 act_keeps : (v : Version) (s : State) (st : Statement) → IsFineState s → IsSaid st → OkIs IsFineState (act v s st)
 unfolding act
@@ -38,10 +39,10 @@ bare_same : (ds : List Draft) → Each IsFineDraft ds → map (λ (d : Draft). d
 bare_same [] f = refl
 bare_same (d ∷ ds) f = search (rules, bare_same ds f.1)
 
-abbrev all_named : (atts : List Att) → AreFineAtts atts → All (λ (a : Att). IsName a.name) atts
+abbrev all_named : (atts : List Att) → AreFine IsFineAtt att_name atts → All (λ (a : Att). IsName a.name) atts
 all_named atts f = all_of (λ (a : Att). IsName a.name) atts (each_map IsFineAtt (λ (a : Att). IsName a.name) atts (λ a g. g.name) f.fine)
 
-abbrev all_bytes : (atts : List Att) → AreFineAtts atts → All (λ (a : Att). AreBytes a.vals) atts
+abbrev all_bytes : (atts : List Att) → AreFine IsFineAtt att_name atts → All (λ (a : Att). AreBytes a.vals) atts
 all_bytes atts f = all_of (λ (a : Att). AreBytes a.vals) atts (each_map IsFineAtt (λ (a : Att). AreBytes a.vals) atts (λ a g. are_bytes a.vals g.bytes) f.fine)
 
 over_drafts : (s : State) (P : Var → Type 0) → IsFineState s → ((d : Draft) → IsFineDraft d → P d.var) → All P (map (λ (d : Draft). d.var) s.drafts)
@@ -63,7 +64,7 @@ good v s f whole = record {
 
 -- ---- nearly sayable
 
-sayable_atts : (atts : List Att) → AreFineAtts atts → AreSayableAtts atts
+sayable_atts : (atts : List Att) → AreFine IsFineAtt att_name atts → AreSayableAtts atts
 sayable_atts atts f = record { names = f.names; some = all_of HasSomeNumber atts (each_map IsFineAtt HasSomeNumber atts (λ a g. g.some) f.fine) }
 
 no_records : (dims : List Dim) (ds : List Draft) → record_vars dims (map (λ (d : Draft). d.var) ds) ≡ [] → records_in dims ds ≡ 0
