@@ -61,12 +61,9 @@ of_any p word [] all any = cc
 of_any p word (w ∷ words) all any = grind (arith, bytes_eq-Decides, and_left, and_right, of_any p word words (and_right (p w) (list_all p words) all))
 
 -- a reserved word stands for itself
-stands : List ℕ → Bool
-stands word = bytes_eq (word_value word) word
-
 reserved_stand : (word : List ℕ) → is_reserved word ≡ true → word_value word ≡ word
-unfolding is_reserved stands word_value
-reserved_stand word h = (bytes_eq-Decides (word_value word) word).0 (of_any stands word reserved_words refl h)
+unfolding is_reserved word_value
+reserved_stand word h = (bytes_eq-Decides (word_value word) word).0 (of_any (λ w. bytes_eq (word_value w) w) word reserved_words refl h)
 
 marked_free : (bs : List ℕ) → is_reserved (0x5c ∷ bs) ≡ false
 unfolding is_reserved

@@ -71,6 +71,7 @@ pub use Rattle.std.proofs.lemmas.Fmt.{decimal_nonempty, first_decimal}
 pub use Rattle.std.proofs.lemmas.Int.{ints}
 pub use Rattle.std.proofs.lemmas.List.{drop-drop, get_or-drop, length-append, length-map, length-replicate, length-take, map-append, replicate_more, take-append-drop, get_or-map, map-id}
 pub use Rattle.std.proofs.lemmas.List.Folds.{list_all-append, list_any-append}
+pub use Rattle.std.proofs.lemmas.List.Elements.{filter-append}
 pub use Rattle.std.proofs.lemmas.List.Sums.{suffix_len-take_no, suffix_len-take_yes}
 pub use Rattle.std.proofs.lemmas.Slice.Eq.{bytes_eq-Decides}
 pub use Rattle.std.specs.Char.{is_ascii_control, to_ascii_lowercase}

@@ -1,5 +1,5 @@
 -- What a dataset that a text can declare gives for each of its parts.
-use Rattle.cdl_laws.proofs.Prelude.{◌≡◌, ℕ, ◌+◌, ◌^◌, ◌<◌, ◌≤◌, Bool, true, false, List, [], ◌∷◌, ◌++◌, length, map, ap, refl, arith, append_assoc, ◌||◌, ◌==◌, All, filter, rules, list_any, bytes_eq, false≢true, list_any-append, bytes_eq-Decides, AreBytes, Att, Dim, Var, Version, has_name, has_record_dim, IsSoundAtt, IsSoundDim, IsName, count_limit, AreDistinct, HasSomeNumber, trimmed_att, Draft, Each, each_of, EachAfter, or_left, or_right}
+use Rattle.cdl_laws.proofs.Prelude.{filter-append, length-append, ◌≡◌, ℕ, ◌^◌, ◌<◌, ◌≤◌, Bool, true, false, List, [], ◌∷◌, ◌++◌, length, map, ap, refl, arith, append_assoc, ◌||◌, ◌==◌, All, filter, rules, list_any, bytes_eq, false≢true, list_any-append, bytes_eq-Decides, AreBytes, Att, Dim, Var, Version, has_name, has_record_dim, IsSoundAtt, IsSoundDim, IsName, count_limit, AreDistinct, HasSomeNumber, trimmed_att, Draft, Each, each_of, EachAfter, or_left, or_right}
 use Rattle.cdl_laws.proofs.Readings.{record_once, is_new_att, Speaks, IsNewDim, AreNewAtts}
 use Rattle.cdl_laws.proofs.Attributes.{speaks}
 
@@ -51,12 +51,8 @@ some_record : (dims : List Dim) → has_record_dim dims ≡ true → 0 < length 
 some_record [] h = absurd (false≢true h)
 some_record (d ∷ dims) h = grind (arith, some_record dims)
 
-pub filter_append : (a b : List Dim) → length (filter is_record (a ++ b)) ≡ length (filter is_record a) + length (filter is_record b)
-filter_append [] b = omega arith
-filter_append (d ∷ a) b = grind (arith, filter_append a b)
-
 once : (done : List Dim) (d : Dim) (ds : List Dim) → length (filter is_record (done ++ d ∷ ds)) ≤ 1 → record_once done d.len
-once done d ds h zero_len = grind (arith, some_record, filter_append)
+once done d ds h zero_len = (let e = filter-append is_record done (d ∷ ds) in grind (arith, some_record, length-append, e))
 
 abbrev pub dim_name : Dim → List ℕ
 dim_name d = d.name

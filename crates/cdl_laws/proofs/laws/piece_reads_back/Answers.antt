@@ -1,5 +1,5 @@
-use Rattle.cdl_laws.proofs.Prelude.{rules, [], ◌∷◌, refl, arith, slice_index_or, Some, concat_parts, Dim, netcdf_word, IsName, Section, Globals, Dimensions, Variables, Values, scan, pieces_after, Close, shape, SaysStatement, brace_piece, AttributeReadsBack, lexemes_at, pieces_of, all_of, each_map, each_of}
-use Rattle.cdl_laws.proofs.Readings.{dim_says, Speaks, global_says, owned_says, pieces_are, declared}
+use Rattle.cdl_laws.proofs.Prelude.{rules, [], ◌∷◌, refl, arith, slice_index_or, concat_parts, Dim, netcdf_word, IsName, Section, Globals, Dimensions, Variables, Values, scan, pieces_after, Close, shape, SaysStatement, brace_piece, lexemes_at, pieces_of, all_of, each_map, each_of}
+use Rattle.cdl_laws.proofs.Readings.{dim_says, global_says, owned_says, pieces_are, declared}
 use Rattle.cdl_laws.proofs.Ends.{dimensions_says, variables_says, data_says, opening_lexemes, comment_back}
 use Rattle.cdl_laws.proofs.Sayables.{atts_speak}
 use Rattle.cdl_laws.proofs.RowsRead.{rows_read_back}
@@ -34,24 +34,19 @@ pub returns-clause-declarations : goal.returns-clause-declarations
 returns-clause-declarations c = λ d s k var h.
     let g = s.good in
     let sound = g.is_sound.vars k var h in
-    let names = each_of (λ (dim : Dim). IsName dim.name) d.header.dims g.names.dims in
-    declared d.header.version d.header.dims (slice_index_or d.header.vars k var) (g.names.vars k var h).0 sound.shape names s.dims sound.ty
+    declared d.header.version d.header.dims _ (g.names.vars k var h).0 sound.shape (each_of (λ (dim : Dim). IsName dim.name) d.header.dims g.names.dims) s.dims sound.ty
 
 pub returns-clause-attributes : goal.returns-clause-attributes
 returns-clause-attributes c = λ d s k var h.
     let g = s.good in
-    let v = d.header.version in
     let x = slice_index_or d.header.vars k var in
-    let name = (g.names.vars k var h).0 in
-    let speak = atts_speak v x.atts (g.is_sound.vars k var h).atts (g.values.vars k var h) (s.vars k var h).atts.some (g.names.vars k var h).1 in
-    all_of (AttributeReadsBack v Variables (Some x.name)) x.atts (each_map (Speaks v) (AttributeReadsBack v Variables (Some x.name)) x.atts (owned_says v x.name name) speak)
+    let speak = atts_speak d.header.version x.atts (g.is_sound.vars k var h).atts (g.values.vars k var h) (s.vars k var h).atts.some (g.names.vars k var h).1 in
+    grind (arith, owned_says d.header.version x.name (g.names.vars k var h).0, speak, all_of, each_map)
 
 pub returns-clause-global_attributes : goal.returns-clause-global_attributes
 returns-clause-global_attributes c = λ d section s before.
     let g = s.good in
-    let v = d.header.version in
-    let atts = d.header.gatts in
-    grind (arith, global_says v section before, atts_speak v atts g.is_sound.gatts g.values.gatts s.gatts.some g.names.gatts, all_of, each_map)
+    grind (arith, global_says d.header.version section before, atts_speak d.header.version d.header.gatts g.is_sound.gatts g.values.gatts s.gatts.some g.names.gatts, all_of, each_map)
 
 pub returns-clause-values : goal.returns-clause-values
 returns-clause-values c = λ d records width place var s known at some. grind (arith, rows_read_back d records width place var s known at some)
