@@ -30,6 +30,7 @@ are_back d n width place (var ∷ vars) (a ∷ arrays) at are all =
     let h = d.header in
     let array = slice_index_or d.arrays place [] in
     let here : array ≡ a = grind (arith, get_or-drop place d.arrays 0 [], ap (λ xs. slice_index_or xs 0 []) at) in
+    let fits : has_small_array h.dims n (draft_of var) ≡ true = search (rules, le-leb, are.0.small, are.0.whole) in
     let b = is_back h.version h n width var array (subst (IsArray h.dims n var) (sym here) are.0) all.0.0 all.0.1 in
     let others = are_back d n width (place + 1) vars arrays (sym (drop-drop 1 place d.arrays) ∙ ap (drop 1) at) are.1 all.1 in
     let draft = given_draft var (option_map (λ g. g.listed) b.o) in
@@ -37,7 +38,7 @@ are_back d n width place (var ∷ vars) (a ∷ arrays) at are all =
       drafts = draft ∷ others.drafts;
       vars_are = ap (λ vs. trimmed_var var ∷ vs) others.vars_are;
       arrays_are = ap (λ x. x ∷ map (array_of h.dims n) others.drafts) (b.back ∙ here) ∙ ap (λ xs. a ∷ xs) others.arrays_are;
-      small = and_both _ _ (search (rules, le-leb, are.0.small, are.0.whole)) others.small;
+      small = and_both _ _ fits others.small;
       records = grind (arith, counted, others.records, b.exact, all.0.2);
       taken = λ gatts before fresh distinct. one_taken h.version h gatts before _ (look_of h var n width) var (values_in_dataset d place var) b.o place _ _ (has_values h.dims n var) all.0.0 fresh.0 refl b.shown
           (simp append_assoc at (others.taken gatts (before ++ draft ∷ []) (fresh_more draft_name before draft (map var_name vars) fresh.1 distinct.0) distinct.1));
