@@ -77,17 +77,22 @@ gives v h n width var (x ∷ xs) len count range name fill =
   where
     look : Look
     look = look_of h var n width
+
     room : IsWithin (room_of h.dims var) (length (x ∷ xs))
     room = grind arith
+
     one_row : look.in_rows ≡ false → length (x ∷ xs) ≤ look.row
     one_row e = let r : look.row ≡ value_count h.dims var n = rw (is_on (nat_lt (length var.dimids) 2) e) refl in omega (arith, r, len)
+
     trims : look.trimmed ≡ true → fill_value var ≡ pos 0
     trims e = (Decides-int_eq (fill_value var) (pos 0)).0 (and_left (int_eq (fill_value var) (pos 0)) (not (is_record_var h.dims var && (length var.dimids == 1))) e)
+
     numbers : is_char var.ty ≡ false → Gives v h.dims look var (x ∷ xs)
     numbers other =
         let taken : takes_of h.dims (trimmed_var var) ≡ Numbers var.ty look.fill = grind (arith, same_fill var other, other) in
         gives_all v h.dims look var (x ∷ xs) (map (value_said look) (x ∷ xs)) (numbers_say v look x xs name other one_row (all_small var.ty (x ∷ xs) range))
         (rw (taken) (numbers_listed look var.ty (room_of h.dims var) [] (x ∷ xs) room (all_fit var.ty (x ∷ xs) range)))
+
     -- a record variable of rank 1 isn't trimmed
     line : is_char var.ty ≡ true → look.in_rows ≡ false → Gives v h.dims look var (x ∷ xs)
     line char rank =
@@ -103,6 +108,7 @@ gives v h n width var (x ∷ xs) len count range name fill =
           full = characters.row_back look.trimmed (length (x ∷ xs)) (fill_value (trimmed_var var)) (x ∷ xs) (λ t. fill char ∙ trims t) refl all;
           exact = λ e. ap (λ t. map pos (printed t 0 (x ∷ xs))) (untrimmed e) ∙ back_whole (x ∷ xs) all;
         }
+
     table : is_char var.ty ≡ true → look.in_rows ≡ true → Gives v h.dims look var (x ∷ xs)
     table char rank =
         let some = table_rows h.dims var.dimids (value_count h.dims var n) (if is_record_var h.dims var then n else 1) rank refl count in
