@@ -15,17 +15,8 @@ returns-in_err-put_token-clause-adds c =
 
 -- the constant of the token alone
 pub returns-then-not-may_precede_plain-clause-adds : goal.returns-then-not-may_precede_plain-clause-adds
-returns-then-not-may_precede_plain-clause-adds c =
-    let a = c.args in
-    let rest = c.token_and_comma.new.self in
-    token_turn a.ty (version_of a.start) c.version.result a.start rest (lexeme_of c.in-Some.token) a.vals.now c.put_token.new.vals c.version.ensures (c.is_at_comma.ensures c.if-not-is_at_comma.false) c.in-Some.ensures.passes (c.in_ok-put_token.ensures (words rest))
+returns-then-not-may_precede_plain-clause-adds c = search (rules, token_turn)
 
 -- and plain numbers after it
 pub returns-clause-adds : goal.returns-clause-adds
-returns-clause-adds c =
-    let a = c.args in
-    let rest = c.token_and_comma.new.self in
-    let between = c.put_token.new.vals in
-    let passes = c.in-Some.ensures.passes in
-    let one = token_turn a.ty (version_of a.start) c.version.result a.start rest (lexeme_of c.in-Some.token) a.vals.now between c.version.ensures (c.is_at_comma.ensures c.if-not-is_at_comma.false) passes (c.in_ok-put_token.ensures (words rest)) in
-    then_takes a.ty a.start rest a.vals.now between c.take_plain_constants.new.vals c.take_plain_constants.result passes.same.version one c.take_plain_constants.ensures.adds
+returns-clause-adds c = search (rules, then_takes, token_turn)

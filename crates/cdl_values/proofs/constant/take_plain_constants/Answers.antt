@@ -1,15 +1,10 @@
 use Rattle.cdl_values.proofs.Prelude.{CdlKind, FailsRead, at_same_comma, version_of, rules, ◌≡◌, ℕ, List, Result, sym, ◌∙◌, Err, Ok, subst}
 use Rattle.cdl_statements.specs.code.ValueLists as lists
-use Rattle.cdl_statements.specs.declared.{value_list.ValueList.ValueList}
 use Rattle.cdl_values.proofs.ConstantRuns.{is_wrong, left_at, moved, moved_past, moved_to, number_turn}
 use Rattle.cdl_values.proofs.constant.take_plain_constants.Goals as goal
 
 pub numbers-init : goal.numbers-init
-numbers-init c =
-    let a = c.args in
-    let first = lists.reached c.new-list.result in
-    let same = c.new-list.ensures in
-    record { at = at_same_comma first a.start same c.requires.at; moves = moved_to a.start first same c.requires.at; adds = left_at a.ty (version_of a.start) a.vals.now first a.start same }
+numbers-init c = search (rules, at_same_comma, left_at, moved_to)
 
 pub numbers-preserved : goal.numbers-preserved
 numbers-preserved c =
@@ -38,8 +33,4 @@ returns-in_err-put_number_constant-clause-adds c =
     is_wrong a.ty a.start a.vals.now c.put_number_constant.new.vals c.from_residual.result err.field-0.0 is (subst (λ (read : Result (List ℕ) CdlKind). FailsRead err.field-0.0 read) l.invariant.adds wrong)
 
 pub returns-clause-adds : goal.returns-clause-adds
-returns-clause-adds c =
-    let a = c.args in
-    let v = version_of a.start in
-    let same = subst (λ (l : ValueList). lists.SamePlace c.cutter.result (lists.reached l)) (c.number_and_comma.ensures.stays c.in_default.is) c.cutter.ensures in
-    sym (left_at a.ty v c.numbers.vals c.cutter.result (lists.reached c.numbers.list) same ∙ c.numbers.invariant.adds)
+returns-clause-adds c = search (rules, left_at)

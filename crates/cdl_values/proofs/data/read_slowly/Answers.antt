@@ -1,4 +1,4 @@
-use Rattle.cdl_values.proofs.Prelude.{values, word_value, Lexeme, lexeme, completes, DataName, next_token, text_of, version_of, words, CdlKind, FailsRead, packed, data_read, packed_for, target_of, StatementValues, rules, ◌≡◌, sym, ap, ◌∙◌, true, false, subst, Result, List, ℕ}
+use Rattle.cdl_values.proofs.Prelude.{values, word_value, Lexeme, lexeme, completes, DataName, next_token, text_of, version_of, words, CdlKind, FailsRead, packed, data_read, packed_for, target_of, StatementValues, rules, ◌≡◌, sym, ap, ◌∙◌, true, subst, Result, List, ℕ}
 use Rattle.cdl_values.proofs.AllowedNames.{refused}
 use Rattle.cdl_values.proofs.DataReads.{bad_read, no_fault, unshaped_read, read_on, name_goes, name_on, equals_goes, filled_ok, filled_err}
 use Rattle.cdl_values.proofs.data.read_slowly.Goals as goal
@@ -7,15 +7,10 @@ pub returns-in-Some-clause-read : goal.returns-in-Some-clause-read
 returns-in-Some-clause-read c = bad_read (version_of c.args.start) c.args.names.now c.args.targets.now (words c.args.start) c.in-Some.kind (sym c.check_shape_by_due-found.ensures.bad ∙ c.in-Some.is)
 
 pub returns-then-not-found-clause-read : goal.returns-then-not-found-clause-read
-returns-then-not-found-clause-read c =
-    let names = c.args.names.now in
-    let off : completes DataName (words c.args.start) ≡ false = search rules in
-    unshaped_read (version_of c.args.start) names c.args.targets.now (words c.args.start) (sym c.check_shape_by_due-found.ensures.bad ∙ no_fault c.check_shape_by_due-found.result.bad c.in_default.not-Some) off
+returns-then-not-found-clause-read c = search (rules, no_fault, unshaped_read)
 
 pub advanced-requires-2 : goal.advanced-requires-2
-advanced-requires-2 c =
-    let on : completes DataName (words c.args.start) ≡ true = search rules in
-    c.advanced.ensures.goes (name_goes (lexeme (text_of c.args.start) (next_token c.args.start)) (words c.advanced.result.0) (words c.args.start) c.advanced.result.1 c.advanced.ensures.words on)
+advanced-requires-2 c = search (rules, name_goes)
 
 pub pack-requires : goal.pack-requires
 pack-requires c =

@@ -1,4 +1,4 @@
-use Rattle.cdl_values.proofs.Prelude.{dim_len, product, most, ◌≡◌, ◌+◌, ◌*◌, min, get_or, drop, map, arith, ◌∙◌, ap}
+use Rattle.cdl_values.proofs.Prelude.{dim_len, product, most, ◌≡◌, ◌+◌, ◌*◌, min, get_or, drop, map, arith, ◌∙◌, ap, rules}
 use Rattle.nc_base.proofs.SizeLaws.{capped_more, capped_all}
 use Rattle.cdl_values.proofs.targets.place_count.Goals as goal
 
@@ -13,5 +13,4 @@ loop-id-preserved c =
     )
 
 pub returns : goal.returns
-returns c =
-    capped_all (dim_len c.args.dims.now) c.args.dimids.now _ _ _ most c.loop-id-test.false c.loop-id.invariant.1 c.loop-id.invariant.0
+returns c = search (rules, capped_all)

@@ -1,4 +1,4 @@
-use Rattle.cdl_values.proofs.Prelude.{Characters, joined, capacity_minus, row_bytes, Rows, rules, arith, ◌≡◌, ◌+◌, false, refl, sym, subst, Ok}
+use Rattle.cdl_values.proofs.Prelude.{Characters, joined, capacity_minus, row_bytes, Rows, rules, arith, ◌≡◌, ◌+◌, false, sym, subst, Ok}
 use Rattle.cdl_statements.specs.code.ValueLists as lists
 use Rattle.cdl_statements.specs.declared.{value_list.ValueList.ValueList}
 use Rattle.cdl_values.specs.code.ValueRuns.{TakesRows}
@@ -6,12 +6,7 @@ use Rattle.cdl_values.proofs.ValueRuns.{ended, reached, row_on, stays, takes_fur
 use Rattle.cdl_values.proofs.value_run.put_rows.Goals as goal
 
 pub rows-init : goal.rows-init
-rows-init c = record {
-  at = c.requires;
-  so = λ takes_fill left room.
-      let start = reached (lists.reached c.args.list.now) c.args.array.now left in
-      ended takes_fill (Rows c.args.len c.args.fill) start start (lists.reached c.args.list.now) (capacity_minus 0 left) refl (grind arith) (stays takes_fill (Rows c.args.len c.args.fill) start c.requires);
-}
+rows-init c = search (rules, ended, stays)
 
 pub rows-preserved : goal.rows-preserved
 rows-preserved c =

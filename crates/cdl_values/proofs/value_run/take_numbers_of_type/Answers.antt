@@ -1,4 +1,4 @@
-use Rattle.cdl_values.proofs.Prelude.{at_same_comma, is_full, capacity_minus, place, Capacity, Cutter, Numbers, TakesValues, arith, ◌≡◌, ◌-◌, ℕ, List, false, sym, ◌∙◌, subst, subst₂}
+use Rattle.cdl_values.proofs.Prelude.{at_same_comma, capacity_minus, place, Cutter, Numbers, TakesValues, arith, ◌-◌, ℕ, List, sym, ◌∙◌, subst, subst₂, rules}
 use Rattle.cdl_statements.specs.code.ValueLists as lists
 use Rattle.cdl_statements.specs.declared.{value_list.ValueList.ValueList}
 use Rattle.cdl_values.proofs.ValueRuns.{ended_at, reached, stays, takes_further}
@@ -18,24 +18,7 @@ numbers-init c =
     }
 
 pub numbers-preserved : goal.numbers-preserved
-numbers-preserved c =
-    let a = c.args in
-    let l = c.numbers in
-    let count = c.limit-room.result - l.left in
-    let some = c.numbers-test.true in
-    let within = l.invariant.within in
-    let room : is_full (capacity_minus count a.start.capacity) ≡ false = c.limit-room.ensures.room count (omega (arith, some, within)) in
-    let start = place a.start a.array.now in
-    let here = reached (lists.reached l.list) l.array (capacity_minus count a.start.capacity) in
-    let there = reached (lists.reached c.put_next_number.new.list) c.put_next_number.new.array (capacity_minus (c.limit-room.result - (l.left - 1)) a.start.capacity) in
-    let left : capacity_minus 1 (capacity_minus count a.start.capacity) ≡ capacity_minus (c.limit-room.result - (l.left - 1)) a.start.capacity = grind arith in
-    let one = c.in_ok-put_next_number.ensures.more c.if-not-branch.false (capacity_minus count a.start.capacity) room in
-    let next = subst (λ (k : Capacity). TakesValues a.takes_fill (Numbers a.fill) here (reached there.cutter there.bytes k)) left one in
-    record {
-      within = omega (arith, within);
-      at = one.at;
-      so = takes_further a.takes_fill (Numbers a.fill) start here there l.invariant.so next;
-    }
+numbers-preserved c = search (rules, takes_further)
 
 pub returns : goal.returns
 returns c =
