@@ -1,14 +1,11 @@
-use Rattle.cdl_parse.proofs.Prelude.{rules, ◌≡◌, ◌<◌, ℕ, false, List, [], length, refl, sym, ap, ◌∙◌, subst, replicate, ◌^◌, closing_of, is_done, pieces_left, text_of, version_of, Section, run, IsInDataSection, TakesStatement, FailsAt, at_line, ParseError}
+use Rattle.cdl_parse.proofs.Prelude.{rules, ◌≡◌, ◌<◌, false, length, sym, ap, ◌∙◌, subst, ◌^◌, closing_of, is_done, pieces_left, text_of, version_of, Section, run, IsInDataSection, TakesStatement, FailsAt, at_line, ParseError}
 use Rattle.cdl_parse.proofs.DataRuns.{none_so_far, values_on}
 use Rattle.cdl_parse.proofs.Closings.{closing_on}
 use Rattle.cdl_parse.proofs.RunSteps.{fewer, goes_on, stops}
 use Rattle.cdl_parse.proofs.data_section.read_data.Goals as goal
 
 pub statements-init : goal.statements-init
-statements-init c =
-    let count : c.len.result ≡ length c.args.targets.items = search rules in
-    let empty = c.in_ok-arrays.ensures ∙ ap (λ (n : ℕ). replicate {A = List ℕ} n []) count in
-    record { text = refl; version = refl; reads = λ vars s at. none_so_far vars s c.args.start c.args.targets.items c.in_ok-arrays.arrays.items at.section at.suit at.unlisted empty; lines = refl }
+statements-init c = search (rules, none_so_far)
 
 pub statements-smaller : goal.statements-smaller
 statements-smaller c = fewer c.statements.cutter c.in-Ok.passed.rest (sym c.is_done.ensures ∙ c.if-is_done.false) c.in-Ok.ensures.rest.pieces
@@ -31,10 +28,7 @@ statements-preserved c =
     }
 
 pub returns-then-is_done-clause-reads : goal.returns-then-is_done-clause-reads
-returns-then-is_done-clause-reads c = λ vars s at.
-    let start = c.args.start in
-    let so = c.statements.invariant.reads vars s at in
-    (so.0, so.1.lists, so.2 ∙ ap (λ (in_section : Section). run (text_of start) (version_of start) (record s { section = in_section; drafts = so.0 }) (pieces_left c.statements.cutter)) at.section)
+returns-then-is_done-clause-reads c = λ vars s at. search rules
 
 pub returns-then-passed-clause-reads : goal.returns-then-passed-clause-reads
 returns-then-passed-clause-reads c = λ vars s at.
@@ -48,10 +42,7 @@ returns-then-passed-clause-reads c = λ vars s at.
     (so.0, closed.1, so.2 ∙ goes_on start t.cutter t.invariant.text t.invariant.version more (record s { drafts = so.0 }) (record s { section = Section.Closed; drafts = so.0 }) c.in-Ok.passed.rest closed.0 found.rest.pieces)
 
 pub returns-then-passed-clause-lines : goal.returns-then-passed-clause-lines
-returns-then-passed-clause-lines c =
-    let t = c.statements in
-    let more : is_done t.cutter ≡ false = sym c.is_done.ensures ∙ c.if-is_done.false in
-    ap (closing_of c.in-Ok.passed.rest) c.and-lines.ensures ∙ closing_on t.lines t.cutter c.in-Ok.passed.rest c.line.result more (c.line.ensures more) c.in-Ok.ensures.rest.pieces ∙ t.invariant.lines
+returns-then-passed-clause-lines c = search (rules, closing_on)
 
 pub returns-in-Err-clause-reads : goal.returns-in-Err-clause-reads
 returns-in-Err-clause-reads c = λ vars s at.

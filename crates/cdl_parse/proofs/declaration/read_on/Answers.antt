@@ -4,10 +4,7 @@ use Rattle.cdl_parse.proofs.DeclarationReads.{dimension_on, next_fails, next_var
 use Rattle.cdl_parse.proofs.declaration.read_on.Goals as goal
 
 pub returns-in_default : goal.returns-in_default
-returns-in_default c = λ ls.
-    let a = c.args in
-    let l = lexeme_of a.token in
-    dimension_on a.dims.now a.variables.now a.begun l ls c.with_dimension.result (no_mark l.kind c.in_default.not-Mark) c.if-begun.true c.with_dimension.ensures.is_open c.with_dimension.ensures.reads
+returns-in_default c = λ ls. search (rules, no_mark, dimension_on)
 
 pub returns-in_ok-add_variable-in_default-2 : goal.returns-in_ok-add_variable-in_default-2
 returns-in_ok-add_variable-in_default-2 c = λ ls.
@@ -18,9 +15,4 @@ returns-in_ok-add_variable-in_default-2 c = λ ls.
     (c.new_variable.ensures a.dims.now after ls)
 
 pub returns-in_err-add_variable-in_default-2 : goal.returns-in_err-add_variable-in_default-2
-returns-in_err-add_variable-in_default-2 c = λ ls.
-    let a = c.args in
-    let l = lexeme_of a.token in
-    let e = c.in_err-add_variable-in_default-2.field-0.0 in
-    stopped (λ (b : PartialVariable). read_on a.dims.now c.add_variable.new.variables b ls) c.from_residual.result e _ (search rules)
-    (next_fails a.dims.now a.variables.now a.begun l ls e (no_mark l.kind c.in_default.not-Mark) c.if-begun.false c.in_err-add_variable-in_default-2.ensures)
+returns-in_err-add_variable-in_default-2 c = λ ls. search (rules, stopped, no_mark, next_fails)

@@ -1,4 +1,4 @@
-use Rattle.cdl_parse.proofs.Prelude.{ap, sym, subst, ◌∙◌, next_token, text_of, words, lexeme, lexeme_of, Leaves, added}
+use Rattle.cdl_parse.proofs.Prelude.{ap, sym, ◌∙◌, next_token, text_of, words, lexeme, lexeme_of, added, rules}
 use Rattle.cdl_statements.proofs.ShapeChecks.{first_word, going}
 use Rattle.cdl_parse.proofs.DeclarationReads.{all_read, begins_name, goes_name}
 use Rattle.cdl_parse.proofs.declaration.read_variables.Goals as goal
@@ -22,12 +22,4 @@ tokens-init c =
     }
 
 pub returns-then-ends : goal.returns-then-ends
-returns-then-ends c =
-    let a = c.args in
-    let t = c.tokens in
-    let l = lexeme (text_of t.cutter) (next_token t.cutter) in
-    let token = lexeme_of c.lexeme-token.result in
-    let rest = words c.advance-ends.new.self in
-    subst (Leaves c.add_variable.new.variables c.add_variable.result) (sym t.invariant.rest)
-    (all_read a.dims.now c.read_on.new.variables (words t.cutter) t.variables c.add_variable.new.variables token t.begun c.in_ok-begun-2.begun c.advance-ends.result rest
-    (first_word (words t.cutter) rest l token c.advance-ends.result c.advance-ends.ensures.words (sym c.lexeme-token.ensures.lexeme)) c.if-ends.true (c.in_ok-begun-2.ensures _) c.add_variable.result c.add_variable.ensures)
+returns-then-ends c = search (rules, first_word, all_read)

@@ -1,4 +1,4 @@
-use Rattle.cdl_parse.proofs.Prelude.{◌≡◌, false, refl, ap, sym, ◌∙◌, closing_of, is_done, next_token, pieces_left, text_of, version_of, words, lexeme, Ended, run}
+use Rattle.cdl_parse.proofs.Prelude.{◌≡◌, false, refl, ap, sym, ◌∙◌, closing_of, is_done, next_token, text_of, version_of, words, lexeme, Ended, rules}
 use Rattle.cdl_parse.proofs.Closings.{closing_end, closing_on}
 use Rattle.cdl_parse.proofs.Defining.{ends}
 use Rattle.cdl_parse.proofs.RunSteps.{fault_stops, fewer, goes_on}
@@ -7,13 +7,7 @@ use Rattle.cdl_parse.proofs.StatementWords.{begins}
 use Rattle.cdl_parse.proofs.text_end.check_end.Goals as goal
 
 pub statements-init : goal.statements-init
-statements-init c = record {
-  text = refl;
-  version = refl;
-  past = c.requires;
-  runs = λ s here. ap (λ section. run (text_of c.args.start) (version_of c.args.start) (record s { section = section }) (pieces_left c.args.start)) here;
-  lines = refl;
-}
+statements-init c = search rules
 
 pub statements-smaller : goal.statements-smaller
 statements-smaller c = fewer c.statements.cutter c.in-Ok.rest (sym c.is_done.ensures ∙ c.if-is_done.false) c.in-Ok.ensures.rest.pieces
@@ -37,15 +31,10 @@ statements-preserved c =
     }
 
 pub returns-then-is_done-clause-line : goal.returns-then-is_done-clause-line
-returns-then-is_done-clause-line c =
-    let t = c.statements in
-    c.closing.ensures ∙ closing_end t.lines t.cutter (sym c.is_done.ensures ∙ c.if-is_done.true) ∙ t.invariant.lines
+returns-then-is_done-clause-line c = search (rules, closing_end)
 
 pub returns-then-is_done-clause-ends : goal.returns-then-is_done-clause-ends
-returns-then-is_done-clause-ends c = λ s here. (
-  c.statements.here,
-  c.statements.invariant.runs s here ∙ run_none (text_of c.args.start) (version_of c.args.start) (record s { section = c.statements.here }) c.statements.cutter (sym c.is_done.ensures ∙ c.if-is_done.true),
-)
+returns-then-is_done-clause-ends c = λ s here. search (rules, run_none)
 
 pub returns-in-Err-clause-ends : goal.returns-in-Err-clause-ends
 returns-in-Err-clause-ends c = λ s here.
