@@ -1,8 +1,7 @@
 -- A run of constants, one constant on.
-use Rattle.cdl_values.proofs.Prelude.{NcType, Version, Cutter, CdlKind, Lexeme, IsAtComma, Passes, PassesNumber, parts, parts_or_zero, held, Parts, number, Number, value_of, values, words, version_of, add_constant, in_turn, ContinuesRead, ReadError, lexeme_with, past_mark, same_words, FailsRead, lexeme, next_token, text_of, ◌≡◌, ℕ, List, ◌∷◌, sym, ap, ◌∙◌, rules, arith, Option, None, Some, Err, Result, option_map, subst, ⊤}
+use Rattle.cdl_values.proofs.Prelude.{NcType, Version, Cutter, Lexeme, IsAtComma, Passes, PassesNumber, parts_or_zero, held, Parts, value_of, values, words, version_of, add_constant, in_turn, ContinuesRead, ReadError, past_mark, same_words, FailsRead, ◌≡◌, ℕ, List, ◌∷◌, sym, ap, rules, arith, Option, None, Some, Err, Result, option_map, subst, ⊤}
 use Rattle.cdl_values.specs.code.TokenValues.{AddsNumber, MovesOn, TakesConstants, constants_on}
 use Rattle.cdl_tokens.specs.declared.numeral.Numeral.{Numeral}
-use Rattle.cdl_tokens.specs.declared.token.TokenKind.TheVariants as kinds
 use Rattle.cdl_statements.proofs.Dues.{kind_of_mark}
 use Rattle.cdl_statements.specs.code.ValueLists as lists
 use Rattle.cdl_values.proofs.ConstantBytes.{turn_on}
@@ -22,14 +21,12 @@ moved_past start rest l passes = search rules
 
 -- past a comma and a token
 pub words_past : (v : Version) (start rest : Cutter) (l : Lexeme) → IsAtComma start → Passes start rest l → values v (words start) ≡ values v (l ∷ words rest)
-words_past v start rest l at passes =
-    ap (values v) passes.passed ∙ past_mark v (lexeme (text_of start) (next_token start)) (l ∷ words rest) (kind_of_mark 0x2c (lexeme (text_of start) (next_token start)) at.comma)
+words_past v start rest l at passes = search (rules, past_mark, kind_of_mark)
 
 -- one token more
 pub token_turn : (ty : NcType) (v w : Version) (start rest : Cutter) (l : Lexeme) (before between : List ℕ) → w ≡ v → IsAtComma start → Passes start rest l →
     in_turn (add_constant ty) before (values w (l ∷ words rest)) ≡ constants_on ty w between rest → constants_on ty v before start ≡ constants_on ty v between rest
-token_turn ty v w start rest l before between same at passes h =
-    ap (in_turn (add_constant ty) before) (words_past v start rest l at passes) ∙ subst (λ (u : Version). in_turn (add_constant ty) before (values u (l ∷ words rest)) ≡ constants_on ty u between rest) same h
+token_turn ty v w start rest l before between same at passes h = search (rules, words_past)
 
 held_parts : (n : Numeral) (r : Option Parts) → Some n ≡ option_map held r → n ≡ held (parts_or_zero r)
 held_parts n None h = cc
@@ -39,11 +36,7 @@ held_parts n (Some p) h = grind (arith, h)
 pub number_turn : (ty : NcType) (v : Version) (start rest : Cutter) (n : Numeral) (before after : List ℕ) (r : Result ⊤ ReadError) → IsAtComma start → PassesNumber start rest n → AddsNumber ty n before after r →
     ContinuesRead (λ (u : ⊤). constants_on ty v after rest) r (constants_on ty v before start)
 unfolding values value_of
-number_turn ty v start rest n before after r at p adds =
-    let l = lexeme_with kinds.Number p.bytes in
-    let n_parts = parts_or_zero (parts v p.bytes) in
-    subst (λ read. ContinuesRead (λ (u : ⊤). constants_on ty v after rest) r read) (sym (ap (in_turn (add_constant ty) before) (words_past v start rest l at p.passes)))
-    (turn_on (add_constant ty) before after (Number (number n_parts)) (values v (words rest)) r (adds n_parts (held_parts n (parts v p.bytes) (p.says v))))
+number_turn ty v start rest n before after r at p adds = search (rules, turn_on, words_past, held_parts)
 
 -- ---- at the same place
 
@@ -57,9 +50,7 @@ left_at ty v bytes c d same = ap (λ (ls : List Lexeme). in_turn (add_constant t
 
 pub then_takes : (ty : NcType) (start middle : Cutter) (before between after : List ℕ) (r : Result Cutter ReadError) → version_of middle ≡ version_of start →
     constants_on ty (version_of start) before start ≡ constants_on ty (version_of start) between middle → TakesConstants ty middle between after r → TakesConstants ty start before after r
-then_takes ty start middle before between after r version so h =
-    subst (λ (read : Result (List ℕ) CdlKind). ContinuesRead (constants_on ty (version_of start) after) r read) (sym so)
-    (subst (λ (v : Version). ContinuesRead (constants_on ty v after) r (constants_on ty v between middle)) version h)
+then_takes ty start middle before between after r version so h = search rules
 
 -- a fault among the constants that are left is that of all
 pub is_wrong : (ty : NcType) (start : Cutter) (before after : List ℕ) (r : Result Cutter ReadError) (e : ReadError) → r ≡ Err e → FailsRead e (constants_on ty (version_of start) before start) → TakesConstants ty start before after r

@@ -1,5 +1,5 @@
 -- What a statement of the data section means is what its state lists.
-use Rattle.cdl_values.proofs.Prelude.{flat_map, position_from, bytes_eq, length-drop, bytes_of_number, Dim, Version, values, completes, next, word_value, Lexeme, is_mark, Listed, first_bad, shape, CdlKind, Syntax, UnknownVariable, fine_on, State, Value, Draft, ValueForm, Fills, Suits, packed, takes_of, taken_type, values_listed, change_named, change_variable, with_values, act, data_read, bytes_assigned, target_of, target_at, unless_given, packed_for, unless_bad, AllSuit, names_of, HasListed, Means, begins_brace, ReadsStatement, result_array, GivesRead, ReadError, as_bytes, most, Target, ◌≡◌, ℕ, ℤ, suc, ◌≤◌, sym, arith, Bool, true, false, List, [], ◌∷◌, ◌++◌, length, refl, ap, ◌∙◌, length-append, append_assoc, Option, None, Some, Result, Ok, Err, if◌then◌else◌, slice_get, drop, rules}
+use Rattle.cdl_values.proofs.Prelude.{flat_map, position_from, bytes_eq, length-drop, bytes_of_number, Dim, Version, values, completes, next, word_value, Lexeme, is_mark, Listed, first_bad, shape, CdlKind, Syntax, UnknownVariable, fine_on, State, Value, Draft, ValueForm, Fills, Suits, packed, takes_of, taken_type, values_listed, change_named, change_variable, with_values, act, data_read, bytes_assigned, target_of, target_at, unless_given, packed_for, unless_bad, AllSuit, names_of, HasListed, Means, begins_brace, ReadsStatement, result_array, GivesRead, ReadError, as_bytes, most, Target, ◌≡◌, ℕ, ℤ, suc, ◌≤◌, arith, Bool, true, false, List, [], ◌∷◌, ◌++◌, length, refl, ap, ◌∙◌, length-append, append_assoc, Option, None, Some, Result, Ok, Err, if◌then◌else◌, slice_get, drop, rules}
 use Rattle.cdl_statements.specs.declared.due.Due.TheVariants as dues
 use Rattle.cdl_statements.specs.declared.section.Section.TheVariants.{Values}
 use Rattle.cdl_statements.proofs.Sections.{data_is}
@@ -40,9 +40,7 @@ one_listed d _ _ is name ds same = cc
 
 -- the values of one draft
 draft_taken : (dims : List Dim) (t : Target) (d : Draft) (xs : List Value) → Suits dims t d → length xs ≤ most → as_bytes d.var.ty (values_listed dims d.var xs) ≡ packed t.form t.capacity xs
-draft_taken dims t d xs suits few =
-    ap (λ ty. as_bytes ty (values_listed dims d.var xs)) (sym (listed_ty dims d.var t.form suits.fills)) ∙
-    all_taken t.form t.capacity dims d.var xs suits.fills suits.takes few
+draft_taken dims t d xs suits few = search (rules, all_taken, listed_ty)
 
 at_target : (v : Version) (dims : List Dim) (ts : List Target) (ds : List Draft) (name : List ℕ) (ws : List Lexeme) → AllSuit dims ts ds → length (values v ws) ≤ most →
     HasListed name ds (packed_for v ws (named (names_of ds) ts name)) (change_named name (with_values dims (values v ws)) ds)

@@ -1,5 +1,5 @@
 -- What an index of names finds, and an index of one name more.
-use Rattle.cdl_values.proofs.Prelude.{list_any, position_from, BTreeMap, bytes_eq, cases_Bool, cond-true, cond-false, false≢true, get_or-map, length-map, IsIndex, NameIndex, first_with_hash, hash_of, is_new, later_position, position_of, ◌≡◌, ◌<◌, ℕ, suc, ◌+◌, Bool, true, false, cond, List, [], ◌∷◌, ◌++◌, length, get_or, refl, sym, ap, ◌∙◌, subst, ⊎_elim, arith, Vec, Global, Option, None, Some, ◌==◌, is_some, map, not, rules}
+use Rattle.cdl_values.proofs.Prelude.{list_any, position_from, BTreeMap, bytes_eq, cases_Bool, cond-true, cond-false, false≢true, get_or-map, length-map, IsIndex, NameIndex, first_with_hash, hash_of, is_new, later_position, position_of, ◌≡◌, ◌<◌, ℕ, zero, suc, ◌+◌, Bool, true, false, cond, List, [], ◌∷◌, ◌++◌, length, get_or, refl, sym, ap, ◌∙◌, subst, ⊎_elim, arith, Vec, Global, Option, None, Some, ◌==◌, is_some, map, not, rules}
 use Rattle.std.specs.BTreeMap as tree
 use Rattle.std.specs.Map.{lookup, IsKeyTest, AreApart, KeepsOthers}
 use Rattle.std.specs.Cmp.{eq_by_cmp_equiv, unsigned_ties}
@@ -53,14 +53,6 @@ module _ (name : List ℕ) where
   other_hash : (other : List ℕ) → has_hash other ≡ false → is_same other ≡ false
   other_hash other e = ⊎_elim (λ y. absurd (false≢true (sym e ∙ same_hash other y))) (λ n. n) (cases_Bool (is_same other))
 
-  -- the name stands where the first name with its hash stands, or elsewhere
-  record Hit (i : ℕ) (names : List (List ℕ)) (q : ℕ) : Type 0 where
-    pub j : ℕ
-    pub is : q ≡ i + j
-    pub within : j < length names
-    pub here : (d : List ℕ) → is_same (get_or names j d) ≡ true → position_from is_same i names ≡ Some q
-    pub elsewhere : (d : List ℕ) → is_same (get_or names j d) ≡ false → position_from is_same i names ≡ Some q → ⊥
-
   later_than : (i : ℕ) (names : List (List ℕ)) (q : ℕ) → position_from is_same i names ≡ Some q → i < suc q
   later_than i [] q is = cc
   later_than i (x ∷ names) q is = search (rules, later_than (i + 1) names q)
@@ -69,48 +61,35 @@ module _ (name : List ℕ) where
   no_hash i [] is = refl
   no_hash i (x ∷ names) is = search (rules, false≢true, no_hash (i + 1) names)
 
-  hit_from : (i : ℕ) (names : List (List ℕ)) (q : ℕ) → position_from has_hash i names ≡ Some q → Hit i names q
-  hit_from i [] q is = cc
-  hit_from i (x ∷ names) q is = ⊎_elim first (later (hit_from (i + 1) names)) (cases_Bool (has_hash x))
-    where
-      here_or : Bool → Option ℕ
-      here_or s = cond s (Some i) (position_from is_same (i + 1) names)
+  -- the first name with its hash is one of the names
+  within_from : (i j : ℕ) (names : List (List ℕ)) → position_from has_hash i names ≡ Some (i + j) → j < length names
+  within_from i j [] is = cc
+  within_from i zero (x ∷ names) is = omega arith
+  within_from i (suc j) (x ∷ names) is = grind (arith, within_from (i + 1) j names)
 
-      first : has_hash x ≡ true → Hit i (x ∷ names) q
-      first h =
-          let at : i ≡ q = let e = sym (cond-true (has_hash x) (Some i) (position_from has_hash (i + 1) names) h) ∙ is in cc in
-          record {
-            j = 0;
-            is = omega (arith, at);
-            within = omega arith;
-            here = λ d s. ap here_or s ∙ ap Some at;
-            elsewhere = λ d s p. let e = later_than (i + 1) names q (sym (ap here_or s) ∙ p) in omega (arith, e, at);
-          }
+  -- the name stands where the first name with its hash stands, or elsewhere
+  here_from : (i j : ℕ) (names : List (List ℕ)) (d : List ℕ) → position_from has_hash i names ≡ Some (i + j) → is_same (get_or names j d) ≡ true → position_from is_same i names ≡ Some (i + j)
+  here_from i j [] d is same = cc
+  here_from i zero (x ∷ names) d is same = grind (arith, later_than)
+  here_from i (suc j) (x ∷ names) d is same = grind (arith, other_hash, here_from (i + 1) j names d)
 
-      later : ((q : ℕ) → position_from has_hash (i + 1) names ≡ Some q → Hit (i + 1) names q) → has_hash x ≡ false → Hit i (x ∷ names) q
-      later more h =
-          let hit = more q (sym (cond-false (has_hash x) (Some i) (position_from has_hash (i + 1) names) h) ∙ is) in
-          let skip : here_or (is_same x) ≡ position_from is_same (i + 1) names = ap here_or (other_hash x h) in
-          record {
-            j = suc hit.j;
-            is = let e = hit.is in omega (arith, e);
-            within = let e = hit.within in omega (arith, e);
-            here = λ d s. skip ∙ hit.here d s;
-            elsewhere = λ d s p. hit.elsewhere d s (sym skip ∙ p);
-          }
+  elsewhere_from : (i j : ℕ) (names : List (List ℕ)) (d : List ℕ) → position_from has_hash i names ≡ Some (i + j) → is_same (get_or names j d) ≡ false → position_from is_same i names ≡ Some (i + j) → ⊥
+  elsewhere_from i j [] d is other at = cc
+  elsewhere_from i zero (x ∷ names) d is other at = grind (arith, later_than)
+  elsewhere_from i (suc j) (x ∷ names) d is other at = grind (arith, other_hash, elsewhere_from (i + 1) j names d)
 
   -- without a name of its hash the name isn't there
   pub absent : (names : List (List ℕ)) → first_with_hash (hash_of name) names ≡ None → position_of names name ≡ None
   absent names is = no_hash 0 names is
 
   pub hit_within : (names : List (List ℕ)) (q : ℕ) → first_with_hash (hash_of name) names ≡ Some q → q < length names
-  hit_within names q is = let hit = hit_from 0 names q is in let e = hit.is in let w = hit.within in omega (arith, e, w)
+  hit_within names q is = grind (arith, within_from 0 q names)
 
   pub hit_here : (names : List (List ℕ)) (q : ℕ) (d : List ℕ) → first_with_hash (hash_of name) names ≡ Some q → is_same (get_or names q d) ≡ true → position_of names name ≡ Some q
-  hit_here names q d is same = grind (arith, hit_from 0 names q is)
+  hit_here names q d is same = grind (arith, here_from 0 q names d)
 
   pub hit_elsewhere : (names : List (List ℕ)) (q : ℕ) (d : List ℕ) → first_with_hash (hash_of name) names ≡ Some q → is_same (get_or names q d) ≡ false → later_position names name ≡ position_of names name
-  hit_elsewhere names q d is other = grind (arith, hit_from 0 names q is, cases_Bool)
+  hit_elsewhere names q d is other = grind (arith, cases_Bool, elsewhere_from 0 q names d)
 
 -- ---- names that items of a list lend
 
@@ -176,8 +155,7 @@ number_test a b = sym (unsigned_ties a b)
 -- a name whose hash is new
 pub first_added : (m n : NameIndex) (names : List (List ℕ)) (name : List ℕ) → IsIndex m names → position_of names name ≡ None → first_with_hash (hash_of name) names ≡ None → n.others ≡ m.others →
     tree.Updates nat_cmp m.first_of_hash n.first_of_hash (hash_of name) (Some (length names)) → IsIndex n (names ++ name ∷ [])
-first_added m n names name index new none same h =
-    search (rules, number_test, later_kept, apart, cases_Bool, firsts_more, cond-false, firsts_kept, bytes_decides, later_first)
+first_added m n names name index new none same h = search (rules, cases_Bool, cond-false, firsts_more, firsts_kept, later_kept, later_first, apart, number_test)
 
 -- a name with the hash of an earlier one
 other_added_after : (m n : NameIndex) (names : List (List ℕ)) (key : Vec ℕ Global) (q : ℕ) → IsIndex m names → position_of names key.items ≡ None → first_with_hash (hash_of key.items) names ≡ Some q → n.first_of_hash ≡ m.first_of_hash →

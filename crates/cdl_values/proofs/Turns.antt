@@ -1,5 +1,5 @@
 -- The values of a statement one by one: their bytes are the bytes of what the state lists.
-use Rattle.cdl_values.proofs.Prelude.{flat_map, flat_map-append, Char, bytes_of_number, Value, Number, Characters, Underscore, CdlKind, Capacity, AtMost, Unlimited, add_value, in_turn, has_room, filled, Fills, taken_type, as_bytes, packed, followed_by, joined, bytes_of, capacity_after, is_full, is_exceeded_by, capacity_minus, char_bytes, Fill, ValueForm, length-map, ◌≡◌, ◌<◌, ◌≤◌, ℕ, zero, suc, ◌+◌, ◌-◌, ◌*◌, ℤ, false, List, [], ◌∷◌, ◌++◌, length, map, refl, sym, ap, ◌∙◌, arith, append-nil, length-append, rules, pos, Option, None, Some, Result, Ok, Err, not, replicate}
+use Rattle.cdl_values.proofs.Prelude.{flat_map, flat_map-append, Char, bytes_of_number, Value, Number, Characters, Underscore, CdlKind, Capacity, AtMost, Unlimited, add_value, in_turn, has_room, filled, Fills, taken_type, as_bytes, packed, followed_by, joined, bytes_of, capacity_after, is_full, is_exceeded_by, capacity_minus, char_bytes, Fill, ValueForm, length-map, ◌≡◌, ◌<◌, ◌≤◌, ℕ, zero, suc, ◌+◌, ◌-◌, ◌*◌, ℤ, false, List, [], ◌∷◌, ◌++◌, length, map, refl, sym, ap, ◌∙◌, arith, append-nil, rules, pos, Option, None, Some, Result, Ok, Err, not, replicate, common_steps}
 use Rattle.cdl_statements.specs.State.{Takes}
 use Rattle.cdl_statements.specs.State as states
 use Rattle.cdl_values.specs.declared.form.ValueForm.TheVariants as fillings
@@ -47,10 +47,7 @@ row_bytes_are len b bs h = search (rules, padding, length-map, pos, flat_map-app
 
 number_put : (fill : Fill) (capacity : Capacity) (room : Option ℕ) (before : List ℤ) (n : ℤ) → Left (fillings.Numbers fill) capacity room (length before) → is_full capacity ≡ false →
     Agree (fillings.Numbers fill) capacity room before (Ok (before ++ n ∷ [])) (Ok (bytes_of_number fill.ty n))
-number_put fill capacity room before n left off = (
-  flat_map-append (bytes_of_number fill.ty) before (n ∷ []) ∙ ap (λ bs. bytes (fillings.Numbers fill) before ++ bs) (append-nil (bytes_of_number fill.ty n)),
-  one_less (fillings.Numbers fill) capacity room (length before) (length (before ++ n ∷ [])) off left (length-append before (n ∷ [])),
-)
+number_put fill capacity room before n left off = grind (arith, common_steps, flat_map-append, one_less)
 
 number_agrees : (fill : Fill) (capacity : Capacity) (room : Option ℕ) (before : List ℤ) (x : Value) → Left (fillings.Numbers fill) capacity room (length before) → has_room room before 1 ≡ not (is_full capacity) →
     Agree (fillings.Numbers fill) capacity room before (add_value (states.Numbers fill.ty fill.value) room before x) (bytes_of (fillings.Numbers fill) capacity x)
@@ -60,12 +57,7 @@ number_agrees fill capacity room before (Number n) left free = grind (arith, num
 
 row_put : (len b : ℕ) (capacity : Capacity) (room : Option ℕ) (before : List ℤ) (bs : List ℕ) → b < 256 → Left (fillings.Rows len b) capacity room (length before) → is_full capacity ≡ false → length bs ≤ len →
     Agree (fillings.Rows len b) capacity room before (Ok (before ++ filled len (pos b) (map pos bs))) (Ok (char_bytes bs ++ replicate (len - length bs) b))
-row_put len b capacity room before bs small left off short =
-    let row = filled len (pos b) (map pos bs) in
-    let one : length row ≡ len = filled_len len (pos b) (map pos bs) (omega (arith, short, length-map bs pos)) in (
-      flat_map-append (bytes_of_number Char) before row ∙ ap (λ ys. bytes (fillings.Rows len b) before ++ ys) (row_bytes_are len b bs small),
-      one_less (fillings.Rows len b) capacity room (length before) (length (before ++ row)) off left (length-append before row ∙ ap (λ n. length before + n) one),
-    )
+row_put len b capacity room before bs small left off short = grind (arith, common_steps, flat_map-append, length-map, filled_len, one_less, row_bytes_are)
 
 row_agrees : (len b : ℕ) (capacity : Capacity) (room : Option ℕ) (before : List ℤ) (x : Value) → b < 256 → Left (fillings.Rows len b) capacity room (length before) → has_room room before len ≡ not (is_full capacity) →
     Agree (fillings.Rows len b) capacity room before (add_value (states.Rows len (pos b)) room before x) (bytes_of (fillings.Rows len b) capacity x)
@@ -74,12 +66,9 @@ row_agrees len b capacity room before _ small left free = refl
 
 agrees : (f : ValueForm) (takes : Takes) → Fills f takes → (capacity : Capacity) (room : Option ℕ) (before : List ℤ) (x : Value) → Left f capacity room (length before) →
     Agree f capacity room before (add_value takes room before x) (bytes_of f capacity x)
-agrees (fillings.Numbers fill) takes h capacity room before x left =
-    rw (h) (number_agrees fill capacity room before x left (room_is (fillings.Numbers fill) capacity room before (omega arith) left))
-agrees fillings.Joined takes h capacity room before x left =
-    rw (h) (grind (arith, past_is, chars_less, flat_map-append, length-append, length-map, chars_len))
-agrees (fillings.Rows len fill) takes h capacity room before x left =
-    rw (h.0) (row_agrees len fill capacity room before x h.2 left (room_is (fillings.Rows len fill) capacity room before h.1 left))
+agrees (fillings.Numbers fill) takes h capacity room before x left = search (rules, room_is, number_agrees)
+agrees fillings.Joined takes h capacity room before x left = grind (arith, common_steps, flat_map-append, length-map, chars_len, past_is, chars_less)
+agrees (fillings.Rows len fill) takes h capacity room before x left = search (rules, room_is, row_agrees)
 
 -- the bytes of the values one by one are the values packed
 turns : (f : ValueForm) (takes : Takes) → Fills f takes → (capacity : Capacity) (room : Option ℕ) (before : List ℤ) (xs : List Value) → Left f capacity room (length before) →
