@@ -35,6 +35,7 @@ pub fn type_said(version: Version, token: Lexeme<'_>) -> NcType
 ///
 /// The fault of the first constant that has one: `MixedConstants` if its type isn't `ty`, otherwise `NumberRange` if its number is out of
 /// the range of `ty`. Or `OutOfMemory` if an allocation failed.
+#[tactic(auto, using(cdl_statements::proofs::ShapeChecks::ending, crate::proofs::ConstantBytes::none_left, cdl_statements::proofs::ShapeChecks::going))]
 pub fn read_constants(
     alloc: Global,
     ty: NcType,
@@ -111,6 +112,7 @@ fn take_plain_constants<'a>(
 /// have. Errs with `MixedConstants` if any other token is no number or string of the type `ty`, with `NumberRange` if a number is out of
 /// the range of `ty`, and with `OutOfMemory` if an allocation failed. Only with `OutOfMemory` some bytes of a string may be appended; no
 /// clause says what `vals` has after an error.
+#[tactic(auto, using(crate::proofs::ConstantBytes::turn_on, crate::proofs::PackedTokens::over_value, crate::proofs::PackedTokens::no_mark, cdl_statements::proofs::Listing::past_mark))]
 fn put_token(
     vals: &mut ListedArray,
     version: Version,
@@ -148,6 +150,7 @@ fn put_constant(
 /// Appends to `vals` the bytes of a number, big-endian. Unlike [`put_numeral`], it checks the type, which comes from the number's suffix.
 /// Errs with `MixedConstants` if this type isn't `ty`, with `NumberRange` if the number is out of the range of `ty`, and with `OutOfMemory`
 /// if an allocation failed. After any error nothing is appended, but no clause says so.
+#[tactic(auto, using(crate::proofs::ConstantBytes::number_left))]
 fn put_number_constant(vals: &mut ListedArray, ty: NcType, n: Numeral) -> Result<(), ReadError>
     ensures { AddsNumber ty n vals.old vals.new result }
 {
@@ -159,6 +162,7 @@ fn put_number_constant(vals: &mut ListedArray, ty: NcType, n: Numeral) -> Result
 
 /// Appends to `vals` the bytes that a string stands for. `bytes` is the string with its quotes. Errs with `MixedConstants` if `ty` isn't
 /// char, and with `OutOfMemory` if an allocation failed. Only with `OutOfMemory` some of the bytes may be appended.
+#[tactic(auto, using(crate::proofs::ConstantBytes::characters_left))]
 fn put_characters(vals: &mut ListedArray, ty: NcType, bytes: &[u8]) -> Result<(), ReadError>
     ensures { Leaves vals.new result (add_constant ty vals.old (text_said bytes.now)) }
 {

@@ -61,6 +61,7 @@ pub struct StatementValues<'a> {
 /// The statement's first fault: one of its tokens (`BadToken`, `BadNumber`) or of their order (`Syntax`), otherwise one of the variable
 /// (`BadName`, `UnknownVariable`, `DuplicateData`), otherwise one of a value (`WrongKind`, `TooManyValues`, `NumberRange`,
 /// `StringTooLong`). Or `OutOfMemory` if an allocation failed.
+#[tactic(auto, using(crate::proofs::Counts::words_len, crate::proofs::Joins::reads_statement))]
 pub fn read_data_statement<'a>(
     alloc: Global,
     names: &VariableNames<'_>,

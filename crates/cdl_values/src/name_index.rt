@@ -33,6 +33,7 @@ impl NameIndex {
 
     /// Returns the position, from 0 on, of the item of this name, or `None` if `list` doesn't have it. Needs the `list` that this is the
     /// index of.
+    #[tactic(auto, using(crate::proofs::NamePositions::absent, crate::proofs::NamePositions::item_within, crate::proofs::NamePositions::item_here, crate::proofs::NamePositions::item_elsewhere))]
     pub fn find<T: Named>(&self, list: &[T], name: &[u8]) -> Option<u64>
         requires { IsIndex self.now (map T.name_of list.now) }
         ensures { result ≡ position_of (map T.name_of list.now) name.now }

@@ -105,6 +105,7 @@ fn put_string(array: &mut ListedArray, raw: &[u8]) -> Result<(), AllocError>
 
 /// Appends to `array` the bytes of a string before the first backslash, or all if there is none, and returns those from it on. Errs only if
 /// an allocation failed; nothing is appended then, but no clause says so.
+#[tactic(auto, using(cdl_tokens::proofs::Strings::stands_run, crate::proofs::ConstantBytes::put_on))]
 fn put_unescaped<'a>(array: &mut ListedArray, bytes: &'a [u8]) -> Result<&'a [u8], AllocError>
     ensures put { IfOk result (λ r. with_rest array.new r.now ≡ with_rest array.old bytes.now) }
     ensures shorter { IfOk result (λ r. length r.now ≤ length bytes.now) }
@@ -116,6 +117,7 @@ fn put_unescaped<'a>(array: &mut ListedArray, bytes: &'a [u8]) -> Result<&'a [u8
 
 /// Appends to `array` the bytes that the first characters of a string stand for, all in one piece, and returns the string's bytes after
 /// these characters. Needs a string that isn't empty. Errs only if an allocation failed; nothing is appended then, but no clause says so.
+#[tactic(auto, using(crate::proofs::ConstantBytes::put_on))]
 fn put_gathered<'a>(array: &mut ListedArray, bytes: &'a [u8]) -> Result<&'a [u8], AllocError>
     requires { 0 < length bytes.now }
     ensures put { IfOk result (λ r. with_rest array.new r.now ≡ with_rest array.old bytes.now) }
@@ -129,6 +131,7 @@ fn put_gathered<'a>(array: &mut ListedArray, bytes: &'a [u8]) -> Result<&'a [u8]
 
 /// Appends to `array` these characters. Errs only if an allocation failed; nothing is appended then, but no clause says so.
 #[inline(always)]
+#[tactic(auto, using(crate::proofs::ConstantBytes::bytes_stay))]
 fn put_bytes(array: &mut ListedArray, characters: &[u8]) -> Result<(), AllocError>
     ensures { OnOk result (array.new ≡ array.old ++ char_bytes characters.now) }
 {

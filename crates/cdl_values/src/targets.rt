@@ -51,6 +51,7 @@ fn target(dims: &[Dim], var: &Var) -> Target
 
 /// Returns the form in which a variable takes the values that the data section lists of it: strings if its type is char, otherwise numbers
 /// of its type. The contract says nothing unless the shape of the variable has ids of `dims`, and the record dimension nowhere but first.
+#[tactic(auto, using(crate::proofs::Places::no_char, crate::proofs::Places::takes_numbers))]
 fn form(dims: &[Dim], var: &Var) -> ValueForm
     ensures { AreDimids dims.now [] var.now.dimids → Fills result (takes_of dims.now var.now) }
 {
@@ -62,6 +63,7 @@ fn form(dims: &[Dim], var: &Var) -> ValueForm
 
 /// Returns the form in which a variable takes strings: joined at rank 0 and 1, otherwise a string for each row. Needs a variable of the
 /// type char. The contract says nothing unless the shape of the variable has ids of `dims`, and the record dimension nowhere but first.
+#[tactic(auto, using(crate::proofs::Places::char_byte, crate::proofs::Places::some_row, crate::proofs::Places::takes_rows), unfolding(cdl_statements::specs::State::takes_of))]
 fn characters(dims: &[Dim], var: &Var) -> ValueForm
     requires { var.now.ty ≡ Char }
     ensures { AreDimids dims.now [] var.now.dimids → Fills result (takes_of dims.now var.now) }

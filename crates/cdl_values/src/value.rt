@@ -75,6 +75,7 @@ pub fn put_token(
 /// `Unnamed` if the token has a fault, such as a suffix that `version` doesn't have, or if its value has one, and with `OutOfMemory` if an
 /// allocation failed; either way, bytes of the value may be appended.
 #[inline]
+#[tactic(auto, using(cdl_statements::proofs::Listing::past_mark))]
 pub fn put_checked_token(
     array: &mut ListedArray,
     version: Version,
