@@ -54,6 +54,7 @@ impl Attributes {
     /// # Errors
     ///
     /// An allocation failed. Then the attributes are what they were.
+    #[tactic(auto, using(cdl_values::proofs::NamePositions::new_is))]
     pub fn add(&mut self, alloc: Global, att: Att) -> Result<bool, AllocError>
         ensures new { IfOk result (λ added. added ≡ not (has_attribute att.name self.old)) }
         ensures atts { IfOk result (λ added. self.new ≡ with_added_att added self.old att) }

@@ -166,6 +166,7 @@ fn replace_array(arrays: &mut Vec<ListedArray>, position: u64, array: ListedArra
 
 /// Sets `given` of the target (what a variable may take) at `position`, since a statement has listed values of its variable. Changes
 /// nothing if there is no such target.
+#[tactic(auto, using(crate::proofs::DataStates::given_is, crate::proofs::DataStates::none_given))]
 fn mark_given(targets: &mut Vec<Target>, position: u64)
     ensures { targets.new.items ≡ given_at position targets.old.items }
 {

@@ -46,6 +46,7 @@ struct PartialVariable {
 /// (`BadShape`).
 ///
 /// Or an allocation failed. In each case some of the variables may have been added.
+#[tactic(auto, using(crate::proofs::DeclarationReads::goes_on, crate::proofs::DeclarationReads::typed))]
 pub fn read_declaration(
     alloc: Global,
     dims: &Dimensions,
@@ -121,6 +122,7 @@ fn read_variables(
 /// Returns a variable of type `ty` without dimensions, with the name that `token` stands for. Needs a token that isn't a mark (one of
 /// `: ; = , ( ) }`). Errs if the format doesn't allow the name (`BadName`), or if an allocation failed. A name that another variable has is
 /// refused later.
+#[tactic(auto, using(cdl_values::proofs::AllowedNames::stopped, crate::proofs::DeclarationReads::begin_fails, crate::proofs::DeclarationReads::begins))]
 fn new_variable(alloc: Global, ty: NcType, token: Lexeme<'_>) -> Result<PartialVariable, ReadError>
     requires { is_mark_kind token.kind ≡ false }
     ensures { BeginsVariable ty (lexeme_of token.entry) result }
@@ -160,6 +162,7 @@ fn read_on(
 
 /// Returns the variable `begun` as it is after the token `mark`: `is_open` becomes true at `(` and false at `)`. Nothing else changes.
 /// Needs a token that is a mark (one of `: ; = , ( ) }`).
+#[tactic(auto, using(crate::proofs::DeclarationReads::after_mark))]
 fn after_mark(begun: PartialVariable, mark: Lexeme<'_>) -> PartialVariable
     requires { is_mark_kind mark.kind ≡ true }
     ensures { PassesMark begun (lexeme_of mark.entry) result }
@@ -192,6 +195,7 @@ fn is_open_after(is_open: bool, mark: Lexeme<'_>) -> bool
 /// The fault that [`dimid_of_word`] finds (`BadName`, `UnknownDimension`, `BadShape`), or `DuplicateName` instead if one of `variables` has
 /// the name of `begun`, since that name comes first in the text. Or an allocation failed. If the dimension has no fault, the name of
 /// `begun` isn't looked up here.
+#[tactic(auto, using(crate::proofs::DeclarationReads::dimension_fails, crate::proofs::DeclarationReads::dimension_ok))]
 fn with_dimension(
     alloc: Global,
     dims: &Dimensions,

@@ -137,6 +137,7 @@ fn fill_bytes(alloc: Global, var: &Var) -> Result<Vec<u8>, AllocError>
 }
 
 /// Appends `count` copies of `copy` to `bytes`. Errs only if an allocation failed; then some of the copies may have been appended.
+#[tactic(auto, using(crate::proofs::Copies::copy_added))]
 fn add_copies(bytes: &mut Vec<u8>, copy: &[u8], count: u64) -> Result<(), AllocError>
     ensures { OnOk result (bytes.new.items ≡ bytes.old.items ++ concat (replicate count copy.now)) }
 {

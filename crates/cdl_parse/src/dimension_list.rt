@@ -88,6 +88,7 @@ fn next_dimension(start: Cutter<'_>) -> NextDimension<'_>
 /// Adds a dimension at the end of `dims`. `name` and `length` are the tokens of its name and its length; `version` limits the length. Errs
 /// with a fault of the name (`BadName`, `DuplicateName`), otherwise with a fault of the length (`ZeroDimension`, `NumberRange`,
 /// `TwoRecordDims`), or if an allocation failed. After any error `dims` is what it was, but no clause says so.
+#[tactic(auto, using(crate::proofs::AttributeReads::fails_then, crate::proofs::AttributeReads::refused, crate::proofs::DimensionReads::name_first, crate::proofs::DimensionReads::with_len, crate::proofs::DimensionReads::leaves_as, crate::proofs::TakenNames::named, crate::proofs::TakenNames::fails_after))]
 fn add_dimension(
     alloc: Global,
     dims: &mut Dimensions,
@@ -110,6 +111,7 @@ fn add_dimension(
 /// Returns the length that the token `length` says, or 0 for `unlimited` or `UNLIMITED`. A number that `version` doesn't have counts as 0.
 /// `has_record` is true if there is a record dimension already. Errs with `ZeroDimension` if the number is 0, with `NumberRange` if it is
 /// negative or too great for the version, and with `TwoRecordDims` for the record dimension if `has_record`.
+#[tactic(auto)]
 fn len_said(version: Version, has_record: bool, length: Lexeme<'_>) -> Result<u64, CdlKind>
     ensures { IsLength version has_record (length_said version (lexeme_of length.entry)) result }
 {

@@ -84,6 +84,7 @@ impl Dimensions {
     /// # Errors
     ///
     /// An allocation failed. Then the dimensions are what they were.
+    #[tactic(auto, using(cdl_values::proofs::NamePositions::new_is))]
     pub fn add(&mut self, alloc: Global, dim: Dim) -> Result<bool, AllocError>
         ensures new { IfOk result (λ added. added ≡ not (is_dimension_name dim.name self.old)) }
         ensures dims { IfOk result (λ added. self.new ≡ with_dim added self.old dim) }
