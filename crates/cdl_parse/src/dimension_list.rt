@@ -111,7 +111,6 @@ fn add_dimension(
 /// Returns the length that the token `length` says, or 0 for `unlimited` or `UNLIMITED`. A number that `version` doesn't have counts as 0.
 /// `has_record` is true if there is a record dimension already. Errs with `ZeroDimension` if the number is 0, with `NumberRange` if it is
 /// negative or too great for the version, and with `TwoRecordDims` for the record dimension if `has_record`.
-#[tactic(auto)]
 fn len_said(version: Version, has_record: bool, length: Lexeme<'_>) -> Result<u64, CdlKind>
     ensures { IsLength version has_record (length_said version (lexeme_of length.entry)) result }
 {

@@ -27,9 +27,6 @@ statements-preserved c =
       lines = ap (closing_of c.in-Ok.passed.rest) c.and-lines.ensures ∙ closing_on t.lines t.cutter c.in-Ok.passed.rest c.line.result more (c.line.ensures more) found.rest.pieces ∙ t.invariant.lines;
     }
 
-pub returns-then-is_done-clause-reads : goal.returns-then-is_done-clause-reads
-returns-then-is_done-clause-reads c = λ vars s at. search rules
-
 pub returns-then-passed-clause-reads : goal.returns-then-passed-clause-reads
 returns-then-passed-clause-reads c = λ vars s at.
     let start = c.args.start in

@@ -6,9 +6,6 @@ use Rattle.cdl_parse.proofs.Runs.{run_none}
 use Rattle.cdl_parse.proofs.StatementWords.{begins}
 use Rattle.cdl_parse.proofs.text_end.check_end.Goals as goal
 
-pub statements-init : goal.statements-init
-statements-init c = search rules
-
 pub statements-smaller : goal.statements-smaller
 statements-smaller c = fewer c.statements.cutter c.in-Ok.rest (sym c.is_done.ensures ∙ c.if-is_done.false) c.in-Ok.ensures.rest.pieces
 

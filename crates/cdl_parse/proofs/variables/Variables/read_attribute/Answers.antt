@@ -61,9 +61,6 @@ unchanged_at items k w atts drafts (Err e) is view same = ap (λ all. drafts_of 
 pub advanced-requires-2 : goal.advanced-requires-2
 advanced-requires-2 c = c.advanced.ensures.goes (past_name _ _ _ _ c.advanced.ensures.words c.requires.shaped).0
 
-pub index_mut-variable-requires : goal.index_mut-variable-requires
-index_mut-variable-requires c = search rules
-
 pub read_attribute-requires-clause-more : goal.read_attribute-requires-clause-more
 read_attribute-requires-clause-more c = c.advanced-2.ensures.goes (past_both _ _ _ _ _ _ _ c.requires.shaped c.advanced.ensures.words c.advanced-2.ensures.words).0
 
