@@ -9,6 +9,7 @@ pub mod SlabsApart
 pub mod HeaderRecords
 pub mod GeneratedFiles
 pub mod WholeVariables
+pub mod ValuesApart
 pub mod MissingValues
 pub mod TruncatedDumps
 pub mod CanonicalLayouts

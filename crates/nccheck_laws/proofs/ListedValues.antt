@@ -10,6 +10,7 @@ use Rattle.nccheck_laws.proofs.FieldPlaces.{HasFault, Shows, is_floating_fault, 
 use Rattle.nccheck_laws.proofs.FirstFaults.{first-told, later-told}
 use Rattle.nccheck_laws.proofs.LayoutFacts.{of-layout, of-missing, report-tells}
 use Rattle.nccheck_laws.proofs.QuietRules.{fewer}
+use Rattle.nccheck_laws.proofs.ValuesApart.{values-apart}
 
 -- ---- a header that is listed to its end
 
@@ -96,8 +97,9 @@ values-had bytes r report none =
     let listed = header-listed bytes r report none r.listing.header refl in
     let h = listed.0 in
     let missing = fewer tells_error is_missing no-missing r.findings (no-error r none) in
-    let shared = fewer tells_error (is_of_layout is_of_shared_bytes) no-shared r.findings (no-error r none) in (
+    let shared = fewer tells_error (is_of_layout is_of_shared_bytes) no-shared r.findings (no-error r none) in
+    let slabs = apart-listed bytes r h report listed.1 shared in (
       h,
       listed.1,
-      record { whole = sym (missing-listed bytes r h report listed.1) ∙ missing; apart = apart-listed bytes r h report listed.1 shared },
+      record { whole = sym (missing-listed bytes r h report listed.1) ∙ missing; slabs = slabs; apart = values-apart h r.listing.end (length bytes) slabs },
     )

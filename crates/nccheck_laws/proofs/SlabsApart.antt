@@ -19,10 +19,10 @@ ends-first layout b c quiet has_b has_c first =
 
 -- ---- pairs of a list that is made of parts
 
-append-pairs : (R : SlabPlace → SlabPlace → Type 0) (xs ys : List SlabPlace) → AllPairs R xs → AllPairs R ys
-    → ((a b : SlabPlace) → Contains xs a → Contains ys b → R a b) → AllPairs R (xs ++ ys)
-append-pairs R [] ys in_xs in_ys across = in_ys
-append-pairs R (x ∷ xs) ys in_xs in_ys across =
+pub append-pairs : {A : Type 0} (R : A → A → Type 0) (xs ys : List A) → AllPairs R xs → AllPairs R ys
+    → ((a b : A) → Contains xs a → Contains ys b → R a b) → AllPairs R (xs ++ ys)
+append-pairs {A} R [] ys in_xs in_ys across = in_ys
+append-pairs {A} R (x ∷ xs) ys in_xs in_ys across =
     AllPairs-cons R x (xs ++ ys)
     (All-append (R x) xs ys (λ k d lt. in_xs 0 (suc k) d (omega arith) (omega arith))
     (λ k d lt. across x (get_or ys k d) (contains-here x xs) (Contains-get_or ys k d lt)))

@@ -17,20 +17,20 @@ abbrev EndsIn : ℕ → ℕ → ℕ → Type 0
 EndsIn size len offset = offset + size ≤ len
 
 -- the offset of a value after a base
-abbrev at : ℕ → List ℕ → List ℕ → ℕ
+abbrev pub at : ℕ → List ℕ → List ℕ → ℕ
 at base strides index = base + distance index strides
 
 abbrev AllEnd : ℕ → ℕ → ℕ → List ℕ → List (List ℕ) → Type 0
 AllEnd size len base strides vectors = All (EndsIn size len) (map (at base strides) vectors)
 
 -- the index vectors of a row
-abbrev row : List (List ℕ) → ℕ → List (List ℕ)
+abbrev pub row : List (List ℕ) → ℕ → List (List ℕ)
 row vectors i = map (λ (index : List ℕ). i ∷ index) vectors
 
 none-ends : (size : ℕ) (b xs : List ℕ) → position (ends_after size (length b)) xs ≡ None → All (EndsIn size (length b)) xs
 none-ends size b xs none = grind (arith, fails_before_first)
 
-row-same : (base i stride : ℕ) (strides : List ℕ) (vs : List (List ℕ))
+pub row-same : (base i stride : ℕ) (strides : List ℕ) (vs : List (List ℕ))
     → map (at base (stride ∷ strides)) (row vs i) ≡ map (at (base + i * stride) strides) vs
 row-same base i stride strides [] = refl
 row-same base i stride strides (v ∷ vs) = grind (arith, at, row-same base i stride strides vs)

@@ -10,7 +10,8 @@ ghost use Rattle.nccheck_laws.specs.Written.{WrittenFieldsAreCanonical, Canonica
 ghost use Rattle.nccheck_laws.specs.FaultLaws.{FaultlessHeadersAreReadable, FirstFaultIsReaders, ReportsTellMissingValues};
 ghost use Rattle.nccheck_laws.specs.ReportLaws.{QuietSpellingsAreCanonical, CanonicalSpellingsAreQuiet, QuietHeadersAreCanonical};
 ghost use Rattle.nccheck_laws.specs.ReportLaws.{QuietFilesAreCanonical};
-ghost use Rattle.nccheck_laws.specs.ErrorLaws.{ListedHeadersTellMissingValues, ListedHeadersHaveSlabsApart, ReportsWithoutErrorsHaveValues};
+ghost use Rattle.nccheck_laws.specs.ErrorLaws.{ListedHeadersTellMissingValues, ListedHeadersHaveSlabsApart, ApartSlabsHaveValuesApart};
+ghost use Rattle.nccheck_laws.specs.ErrorLaws.{ReportsWithoutErrorsHaveValues};
 ghost use Rattle.nccheck_laws.specs.ReportLaws.{WholeFilesHoldDatasets, GeneratedFilesAreFoundWhole};
 ghost use Rattle.nccheck_laws.specs.ReportLaws.{GeneratedFilesHaveQuietLayouts, GeneratedFilesHaveQuietSpellings};
 ghost use Rattle.nccheck_laws.specs.OneReport.{EachFileHasReport, ReportsAreOne};
@@ -160,18 +161,22 @@ pub fn quiet_headers_are_canonical()
     ensures files { QuietFilesAreCanonical }
 {}
 
-/// States three laws of the report of a file, and does nothing. They hold whatever the types of the variables are, floating types included.
+/// States four laws of the report of a file, and does nothing. They hold whatever the types of the variables are, floating types included.
 /// `missing`: if the header is listed to its end, then a finding is that values are missing exactly if some value that the header declares
 /// isn't in the file.
 ///
 /// `apart`: if the header is listed to its end, and no finding is of the three kinds that [`quiet_slabs_are_apart`] names, such as that a
-/// variable begins inside of the header, then no value shares a byte with another one or with the header.
+/// variable begins inside of the header, then no slab (the values of a variable, or those that it has in one record) shares a byte with
+/// another one or with the header.
+///
+/// `own_bytes`: where no slab does, no value shares a byte with another one or with the header.
 ///
 /// `values`: so if no finding is an error ([`Severity::Error`](nc_report::Severity::Error)), the header is listed to its end, each value
 /// that it declares is in the file, and none shares a byte with another one or with the header.
 pub fn reports_without_errors_have_values()
     ensures missing { ListedHeadersTellMissingValues }
     ensures apart { ListedHeadersHaveSlabsApart }
+    ensures own_bytes { ApartSlabsHaveValuesApart }
     ensures values { ReportsWithoutErrorsHaveValues }
 {}
 
