@@ -71,9 +71,9 @@ pub use Rattle.nc_report.specs.declared.{ahead.Ahead.Ahead, finding.Fact.Fact, f
 pub use Rattle.nc_report.specs.declared.finding.Fact.TheVariants.{EmptyFile, Fault, Gzip, Hdf5}
 pub use Rattle.nccheck_laws.specs.Agreement.{LenientHeadersAreStrict, SpellsLeniently, StrictFaultsAreFirstRefusals, StrictHeadersAreLenient, UnrefusedHeadersAreSpelled, att_without_values, first_refusal, header_fields, refusal, refusal_in, var_without_values, without_values}
 pub use Rattle.nccheck_laws.specs.FaultLaws.{FaultlessHeadersAreReadable, FindsFirst, FirstFaultIsReaders, HasNoFault, IsReadable, ReportsTellMissingValues, is_fault, is_missing, strict_fault}
-pub use Rattle.nccheck_laws.specs.HeaderLaws.{CanonicalBeginsAreGenerated, GeneratedFilesAreQuiet, MissingValuesAreFound, MissingValuesStopDumps, QuietFilesAreGenerated, ShortFilesLackValues, ShowsAllValues, finds, is_of_missing, is_truncated, lacks_values}
+pub use Rattle.nccheck_laws.specs.HeaderLaws.{CanonicalBeginsAreGenerated, GeneratedFilesAreQuiet, MissingValuesAreFound, QuietFilesAreGenerated, ShortFilesLackValues, finds, is_of_missing, lacks_values}
 pub use Rattle.nccheck_laws.specs.LayoutLaws.{AreApart, CanonicalBeginsAreQuiet, CanonicalLengthIsQuiet, FindsNone, HasCanonicalBegins, MissingValuesHaveSlab, QuietBeginsAreCanonical, QuietLengthIsCanonical, QuietSlabsAreApart, canonical_begin, canonical_len, fixed_bytes, is_of_begin, is_of_end, is_of_shared_bytes}
-pub use Rattle.nccheck_laws.specs.ReportLaws.{CanonicalSpellingsAreQuiet, FindsWholeFile, GeneratedFilesAreFoundWhole, GeneratedFilesHaveQuietLayouts, GeneratedFilesHaveQuietSpellings, HasQuietLayout, IsAsGenerated, QuietFilesAreCanonical, QuietHeadersAreCanonical, QuietSpellingsAreCanonical, WholeFilesHoldDatasets, has_any, is_of_layout, is_of_spelling}
+pub use Rattle.nccheck_laws.specs.ReportLaws.{CanonicalSpellingsAreQuiet, FindsWholeFile, GeneratedFilesAreFoundWhole, GeneratedFilesHaveQuietLayouts, GeneratedFilesHaveQuietSpellings, HasQuietLayout, IsAsGenerated, QuietFilesAreCanonical, QuietHeadersAreCanonical, QuietSpellingsAreCanonical, ShowsAllValues, WholeFilesHoldDatasets, WholeReportsAreDumped, has_any, is_of_layout, is_of_spelling}
 pub use Rattle.nccheck_laws.specs.Written.{AreWritten, CanonicalFieldsAreWritten, IsWritten, IsWrittenTag, IsWrittenVsize, WrittenFieldsAreCanonical, bytes_of, number_of}
 pub use Rattle.std.proofs.Common.{All, Bool, Err, IfSome, List, None, Ok, Option, Result, Some, [], ap, append-nil, append_assoc, ap₂, arith, codes, cond, drop, eqb-true, false, filter, flat_map, fold, get_or, if◌then◌else◌, inl, inr, le_refl, le_trans, leb, length, length-append, length-take-le, map, max, min, nat_lt, not, refl, replicate, slice_get, subst, suc, sum_by, sym, take, take_while, true, unwrap_or, zero, ℕ, ◌&&◌, ◌*◌, ◌++◌, ◌+◌, ◌-◌, ◌/◌, ◌<◌, ◌==◌, ◌^◌, ◌||◌, ◌↔◌, ◌∙◌, ◌∷◌, ◌≡◌, ◌≢◌, ◌≤◌, ◌⊎◌}
 pub use Rattle.std.proofs.Math.Nat.{mul-le-mul_right}

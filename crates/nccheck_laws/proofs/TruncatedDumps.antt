@@ -1,12 +1,11 @@
--- Values are found to be missing exactly if the dump of all values ends at a missing value.
-use Rattle.nccheck_laws.proofs.Prelude.{list_any, Header, Var, Bytes, SpellsHeader, strict, spelled-layout, ltb-false, first_missing, lacks_values, is_some, false≢true, All-head, All-tail, slab_size, record-whole, IsSoundSlot, MissingValuesStopDumps, ShowsAllValues, is_truncated, ◌≡◌, ℕ, ◌+◌, ◌*◌, ◌<◌, ◌≤◌, Bool, true, false, List, [], ◌∷◌, map, refl, arith, None, All, nat_lt, if◌then◌else◌}
-use Rattle.nc_base.specs.Dump.{Options, Ending, IsDump, stopped, unknown, shown, has_values, is_selected, shown_data, values_in_file, variables_text}
+-- The dump of all values is whole exactly if no variable has a first missing value.
+use Rattle.nccheck_laws.proofs.Prelude.{list_any, not, Header, Var, Bytes, SpellsHeader, ltb-false, first_missing, lacks_values, is_some, false≢true, All-head, All-tail, slab_size, record-whole, ShowsAllValues, ◌≡◌, ℕ, ◌+◌, ◌*◌, ◌<◌, ◌≤◌, Bool, true, false, List, [], ◌∷◌, map, refl, arith, None, All, nat_lt, if◌then◌else◌}
+use Rattle.nc_base.specs.Dump.{Options, Ending, whole, IsDump, stopped, unknown, shown, has_values, is_selected, shown_data, values_in_file, variables_text}
 use Rattle.nc_base.proofs.HeaderOutcomes.{one-header, header-fine}
-use Rattle.nccheck_laws.proofs.MissingValues.{missing-found, unmapped}
 use Rattle.nccheck_laws.proofs.WholeVariables.{some-values}
 
 -- the slab has at least one byte
-abbrev HasBytes : Header → Var → Type 0
+abbrev pub HasBytes : Header → Var → Type 0
 HasBytes h var = 1 ≤ slab_size h.dims var
 
 -- only a record variable has no values, and only without records
@@ -18,11 +17,16 @@ no-values : (h : Header) (bytes : Bytes) (var : Var) (n : ℕ) → HasBytes h va
     → first_missing h bytes var n ≡ None
 no-values h bytes var n some none = grind (arith, no-count, some-values, record-whole)
 
--- a data section of all variables ends at a missing value exactly if one of them has one
+-- a dump that ends so has its whole text
+abbrev pub is_whole : Ending → Bool
+is_whole whole = true
+is_whole other = false
+
+-- a data section of all variables is whole exactly if none of them has a missing value
 section-ends : (h : Header) (bytes : Bytes) (n width : ℕ) (test : Var → Bool) → ((var : Var) → test var ≡ true)
     → (v : ℕ) (vars : List Var) → All (HasBytes h) vars
-    → is_truncated (variables_text (shown_data h (values_in_file h bytes n) n width) v vars (map test vars)).ending
-    ≡ list_any (λ (var : Var). is_some (first_missing h bytes var n)) vars
+    → is_whole (variables_text (shown_data h (values_in_file h bytes n) n width) v vars (map test vars)).ending
+    ≡ not (list_any (λ (var : Var). is_some (first_missing h bytes var n)) vars)
 section-ends h bytes n width test all v [] some = refl
 section-ends h bytes n width test all v (var ∷ vars) some = grind (arith, section-ends h bytes n width test all (v + 1) vars (All-tail (HasBytes h) var vars some), no-values, All-head, All-tail, false≢true)
 
@@ -30,15 +34,9 @@ section-ends h bytes n width test all v (var ∷ vars) some = grind (arith, sect
 selects-all : (h : Header) (o : Options) → ShowsAllValues o → (var : Var) → is_selected h o var ≡ true
 selects-all h o all var = cc
 
-dump-ends : (h : Header) (bytes rest : Bytes) (o : Options) (text : Bytes) (ending : Ending) → SpellsHeader bytes h rest
+pub dump-ends : (h : Header) (bytes rest : Bytes) (o : Options) (text : Bytes) (ending : Ending) → SpellsHeader bytes h rest
     → All (HasBytes h) h.vars → ShowsAllValues o → IsDump bytes o text ending
-    → is_truncated ending ≡ list_any (lacks_values h bytes) h.vars
+    → is_whole ending ≡ not (list_any (lacks_values h bytes) h.vars)
 dump-ends h bytes rest o text ending spelled some all (stopped fault end stops) = absurd (header-fine bytes h rest fault end spelled stops)
 dump-ends h bytes rest o text ending spelled some all (unknown k more index s u) = grind arith
 dump-ends h bytes rest o text ending spelled some all (shown k more n section s knows count is) = grind (arith, one-header, section-ends, selects-all)
-
-pub missing-stops : MissingValuesStopDumps
-missing-stops h bytes rest header_end o text ending spelled ends all is =
-    let sound = spelled-layout strict bytes h rest header_end spelled ends in
-    let slabs = unmapped IsSoundSlot h.dims h.vars sound.sound_slots in
-    grind (arith, missing-found, dump-ends)

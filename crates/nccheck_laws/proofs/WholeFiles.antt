@@ -1,28 +1,67 @@
--- A report has no fault and finds no missing values exactly if the file holds a dataset.
-use Rattle.nccheck_laws.proofs.Prelude.{Var, Bytes, Report, IsReport, file_of, first_missing, concat, Dataset, HoldsDataset, bare, stored_bytes, file-holds, FindsWholeFile, WholeFilesHoldDatasets, GeneratedFilesAreFoundWhole, ◌≡◌, length, map, None, refl, sym, subst, ◌∙◌, All}
+-- No finding has a kind that stops a dump exactly if the file holds a dataset, and exactly if the dump of all values is whole.
+use Rattle.nccheck_laws.proofs.Prelude.{Var, Bytes, SpellsHeader, strict, spelled-layout, Header, Fact, Finding, Report, IsReport, HasNoFault, is_fault, is_missing, list_any, list_any_none, All-cons, All-head, All-nil, All-tail, IsSoundSlot, file_of, first_missing, concat, Dataset, HoldsDataset, bare, stored_bytes, file-holds, FindsWholeFile, ShowsAllValues, WholeFilesHoldDatasets, WholeReportsAreDumped, GeneratedFilesAreFoundWhole, ◌≡◌, Bool, true, false, not, List, [], ◌∷◌, length, map, None, refl, sym, ap, arith, subst, ◌∙◌, All}
+use Rattle.nc_base.specs.Dump.{Options, Ending, whole, IsDump, stopped, unknown, shown}
 use Rattle.nc_base.specs.Sizes.{record_count}
+use Rattle.nc_report.specs.Kinds.{kind_of}
+use Rattle.nccheck_laws.specs.FaultLaws.{finds_missing}
+use Rattle.nccheck_laws.specs.ReportLaws.{stops_dump}
 use Rattle.nccheck_laws.proofs.FirstFaults.{faultless}
-use Rattle.nccheck_laws.proofs.LayoutFacts.{missing-told}
-use Rattle.nccheck_laws.proofs.MissingValues.{none-lack, all-have}
+use Rattle.nccheck_laws.proofs.LayoutFacts.{missing-told, read-header}
+use Rattle.nccheck_laws.proofs.MissingValues.{none-lack, all-have, unmapped}
+use Rattle.nccheck_laws.proofs.TruncatedDumps.{dump-ends, is_whole}
+
+-- ---- what stops a dump: a fault, and missing values
+
+no-fault : (x : Fact) → stops_dump (kind_of x) ≡ false → is_fault x ≡ false
+no-fault x none = grind arith
+
+no-missing : (x : Fact) → stops_dump (kind_of x) ≡ false → is_missing x ≡ false
+no-missing x none = grind arith
+
+no-stop : (x : Fact) → is_fault x ≡ false → is_missing x ≡ false → stops_dump (kind_of x) ≡ false
+no-stop x sound there = grind arith
+
+none-fault : (r : Report) → FindsWholeFile r → HasNoFault r
+none-fault r found = λ k d lt. no-fault _ (found k d lt)
+
+none-missing : (r : Report) → FindsWholeFile r → finds_missing r ≡ false
+none-missing r found = list_any_none (λ (f : Finding). is_missing f.fact) r.findings (λ k d lt. no-missing _ (found k d lt))
+
+abbrev NoFault : Finding → Type 0
+NoFault f = is_fault f.fact ≡ false
+
+abbrev NoStop : Finding → Type 0
+NoStop f = stops_dump (kind_of f.fact) ≡ false
+
+none-stop : (fs : List Finding) → All NoFault fs → list_any (λ (f : Finding). is_missing f.fact) fs ≡ false → All NoStop fs
+none-stop [] no_faults no_missing = All-nil NoStop
+none-stop (f ∷ fs) no_faults no_missing =
+    All-cons NoStop f fs (no-stop f.fact (All-head NoFault f fs no_faults) (grind arith))
+    (none-stop fs (All-tail NoFault f fs no_faults) (grind arith))
+
+-- where the header can be read
+read-whole : (bytes : Bytes) (r : Report) (h : Header) (rest : Bytes) → IsReport bytes r → SpellsHeader bytes h rest → finds_missing r ≡ false
+    → FindsWholeFile r
+read-whole bytes r h rest report spelled none = none-stop r.findings ((faultless bytes r report).1 (h, rest, spelled)) none
+
+-- ---- datasets
 
 held-whole : (bytes : Bytes) (r : Report) (d : Dataset) → IsReport bytes r → HoldsDataset bytes d → FindsWholeFile r
 held-whole bytes r d report holds =
     let h = holds.header in
-    let whole = subst (λ n. All (λ (var : Var). first_missing h bytes var n ≡ None) h.vars) holds.counted holds.whole in
-    record {
-      no_fault = (faultless bytes r report).1 (h, holds.rest, holds.spelled);
-      no_missing = missing-told bytes r h holds.rest report holds.spelled ∙ all-have h bytes h.vars whole;
-    }
+    let present = subst (λ n. All (λ (var : Var). first_missing h bytes var n ≡ None) h.vars) holds.counted holds.whole in
+    read-whole bytes r h holds.rest report holds.spelled
+    (missing-told bytes r h holds.rest report holds.spelled ∙ all-have h bytes h.vars present)
 
 -- the dataset of the values that are stored
 found-held : (bytes : Bytes) (r : Report) → IsReport bytes r → FindsWholeFile r → (d : Dataset) × HoldsDataset bytes d
 found-held bytes r report found =
-    let s = (faultless bytes r report).0 found.no_fault in
+    let s = (faultless bytes r report).0 (none-fault r found) in
     let h = s.0 in
     let n = record_count h (length bytes) in
-    let whole = none-lack h bytes h.vars (sym (missing-told bytes r h s.1 report s.2) ∙ found.no_missing) in (
+    let present = none-lack h bytes h.vars (sym (missing-told bytes r h s.1 report s.2) ∙ none-missing r found) in (
       record { header = bare h n; arrays = map (λ (var : Var). concat (stored_bytes h bytes var n)) h.vars },
-      record { header = h; rest = s.1; records = n; spelled = s.2; counted = refl; is_bare = refl; whole = whole; arrays = refl },
+      record { header = h; rest = s.1; records = n; spelled = s.2; counted = refl; is_bare = refl; whole = present; arrays = refl },
     )
 
 pub whole-hold : WholeFilesHoldDatasets
@@ -30,3 +69,39 @@ whole-hold bytes r report = (λ found. found-held bytes r report found, λ held.
 
 pub generated-whole : GeneratedFilesAreFoundWhole
 generated-whole d r good fits report = held-whole (file_of d) r d report (file-holds d good fits)
+
+-- ---- dumps
+
+-- a dump that is whole is that of a header
+dump-header : (bytes : Bytes) (o : Options) (text : Bytes) (ending : Ending) → IsDump bytes o text ending → ending ≡ whole
+    → (h : Header) × (rest : Bytes) × SpellsHeader bytes h rest
+dump-header bytes o text ending (stopped fault end stops) is = absurd cc
+dump-header bytes o text ending (unknown h rest index spelled u) is = absurd cc
+dump-header bytes o text ending (shown h rest n section spelled knows count same) is = (h, rest, spelled)
+
+-- it is whole exactly if no values are found to be missing
+dump-tells : (bytes : Bytes) (r : Report) (h : Header) (rest : Bytes) (o : Options) (text : Bytes) (ending : Ending) → IsReport bytes r
+    → SpellsHeader bytes h rest → ShowsAllValues o → IsDump bytes o text ending → is_whole ending ≡ not (finds_missing r)
+dump-tells bytes r h rest o text ending report spelled all is =
+    let ends = (read-header bytes r h rest report spelled).1 in
+    let sound = spelled-layout strict bytes h rest r.listing.end spelled ends in
+    let slabs = unmapped IsSoundSlot h.dims h.vars sound.sound_slots in
+    dump-ends h bytes rest o text ending spelled (λ k d lt. (slabs k d lt).some_bytes) all is
+    ∙ ap not (sym (missing-told bytes r h rest report spelled))
+
+whole-is : (ending : Ending) → is_whole ending ≡ true → ending ≡ whole
+whole-is ending is = grind arith
+
+not-true : (b : Bool) → not b ≡ true → b ≡ false
+not-true b is = grind arith
+
+pub whole-dumped : WholeReportsAreDumped
+whole-dumped bytes r o text ending report all is = (
+  λ found.
+      let s = (faultless bytes r report).0 (none-fault r found) in
+      whole-is ending (dump-tells bytes r s.0 s.1 o text ending report s.2 all is ∙ ap not (none-missing r found)),
+  λ same.
+      let s = dump-header bytes o text ending is same in
+      read-whole bytes r s.0 s.1 report s.2
+      (not-true _ (sym (dump-tells bytes r s.0 s.1 o text ending report s.2 all is) ∙ ap is_whole same)),
+)

@@ -1,14 +1,13 @@
 -- Law. A header that bytes spell, by whatever rules on names, types and kept values, has a sound layout. If its variables begin where a
 -- layout in which nothing is found has them, then these are the begins that a generated file has. Values are found to be missing exactly if
--- some variable has a first missing value, and exactly if the dump of all values ends at one.
-use Rattle.std.specs.Prelude.{ℕ, ◌≡◌, ◌+◌, nat_lt, Bool, true, false, List, length, None, is_some}
+-- some variable has a first missing value.
+use Rattle.std.specs.Prelude.{ℕ, ◌≡◌, ◌+◌, nat_lt, Bool, true, false, List, length, is_some}
 use Rattle.std.specs.List.{list_any}
 use Rattle.nc_base.specs.declared.{header.Header.Header, header.Var.Var}
 use Rattle.nc_base.specs.declared.header.NumRecs.TheVariants.{Known}
 use Rattle.nc_base.specs.Bytes.{Bytes}
-use Rattle.nc_base.specs.Dump.{Options, Ending, whole, wrong_field, no_such_variable, data_truncated, IsDump}
 use Rattle.nc_base.specs.GeneratedFile.{file_of, with_begins}
-use Rattle.nc_base.specs.Grammar.{Rules, SpellsHeader, header_by, header_spelling}
+use Rattle.nc_base.specs.Grammar.{Rules, header_by, header_spelling}
 use Rattle.nc_base.specs.Headers.{AreArrays, bare}
 use Rattle.nc_base.specs.Parts.{Spells}
 use Rattle.nc_base.specs.Places.{first_missing}
@@ -69,23 +68,3 @@ ShortFilesLackValues = (h : Header) (bytes : Bytes) (header_end : ℕ) → IsSou
 abbrev pub MissingValuesAreFound : Type 0
 MissingValuesAreFound = (h : Header) (bytes : Bytes) (header_end : ℕ) → IsSoundLayout (layout_of h header_end (length bytes))
     → finds is_of_missing (layout_of h header_end (length bytes)) ≡ list_any (lacks_values h bytes) h.vars
-
--- a dump without `-h`, `-c` and `-v`, which shows the values of all variables
-pub record ShowsAllValues (o : Options) : Type 0 where
-  pub not_head_only : o.head_only ≡ false
-  pub not_coords : o.coords ≡ false
-  pub not_chosen : o.chosen ≡ None
-
--- it ends at a missing value
-abbrev pub is_truncated : Ending → Bool
-is_truncated whole = false
-is_truncated (wrong_field fault) = false
-is_truncated (no_such_variable index) = false
-is_truncated (data_truncated variable value) = true
-
--- in a file of these bytes, whose header ends where the rest begins: values are found to be missing exactly if the dump of all values ends
--- at a missing value
-abbrev pub MissingValuesStopDumps : Type 0
-MissingValuesStopDumps = (h : Header) (bytes rest : Bytes) (header_end : ℕ) (o : Options) (text : Bytes) (ending : Ending)
-    → SpellsHeader bytes h rest → header_end + length rest ≡ length bytes → ShowsAllValues o → IsDump bytes o text ending
-    → finds is_of_missing (layout_of h header_end (length bytes)) ≡ is_truncated ending

@@ -4,7 +4,7 @@ ghost use Rattle.nccheck_laws.specs.LayoutLaws.{QuietBeginsAreCanonical, QuietLe
 ghost use Rattle.nccheck_laws.specs.LayoutLaws.{CanonicalBeginsAreQuiet, CanonicalLengthIsQuiet};
 ghost use Rattle.nccheck_laws.specs.HeaderLaws.{SpelledHeadersHaveSoundLayouts, CanonicalBeginsAreGenerated, QuietFilesAreGenerated};
 ghost use Rattle.nccheck_laws.specs.HeaderLaws.{GeneratedFilesAreQuiet};
-ghost use Rattle.nccheck_laws.specs.HeaderLaws.{ShortFilesLackValues, MissingValuesAreFound, MissingValuesStopDumps};
+ghost use Rattle.nccheck_laws.specs.HeaderLaws.{ShortFilesLackValues, MissingValuesAreFound};
 ghost use Rattle.nccheck_laws.specs.Agreement.{StrictHeadersAreLenient, LenientHeadersAreStrict, UnrefusedHeadersAreSpelled, StrictFaultsAreFirstRefusals};
 ghost use Rattle.nccheck_laws.specs.Written.{WrittenFieldsAreCanonical, CanonicalFieldsAreWritten};
 ghost use Rattle.nccheck_laws.specs.FaultLaws.{FaultlessHeadersAreReadable, FirstFaultIsReaders, ReportsTellMissingValues};
@@ -12,7 +12,7 @@ ghost use Rattle.nccheck_laws.specs.ReportLaws.{QuietSpellingsAreCanonical, Cano
 ghost use Rattle.nccheck_laws.specs.ReportLaws.{QuietFilesAreCanonical};
 ghost use Rattle.nccheck_laws.specs.ErrorLaws.{ListedHeadersTellMissingValues, ListedHeadersHaveSlabsApart, ApartSlabsHaveValuesApart};
 ghost use Rattle.nccheck_laws.specs.ErrorLaws.{ReportsWithoutErrorsHaveValues};
-ghost use Rattle.nccheck_laws.specs.ReportLaws.{WholeFilesHoldDatasets, GeneratedFilesAreFoundWhole};
+ghost use Rattle.nccheck_laws.specs.ReportLaws.{WholeReportsAreDumped, WholeFilesHoldDatasets, GeneratedFilesAreFoundWhole};
 ghost use Rattle.nccheck_laws.specs.ReportLaws.{GeneratedFilesHaveQuietLayouts, GeneratedFilesHaveQuietSpellings};
 ghost use Rattle.nccheck_laws.specs.OneReport.{EachFileHasReport, ReportsAreOne};
 
@@ -76,16 +76,13 @@ pub fn generated_layouts_are_quiet()
     ensures { GeneratedFilesAreQuiet }
 {}
 
-/// States three laws of files, and does nothing. `ends`: if a header has a sound layout in a file, the file ends before its values
+/// States two laws of files, and does nothing. `ends`: if a header has a sound layout in a file, the file ends before its values
 /// do exactly if some variable has a first missing value.
 ///
 /// `found`: in such a file, values are found to be missing exactly if some variable has a first missing value.
-///
-/// `dumps`: in a file that begins with a header, values are found to be missing exactly if the dump of all values ends at a missing value.
-pub fn missing_values_stop_dumps()
+pub fn missing_values_are_found()
     ensures ends { ShortFilesLackValues }
     ensures found { MissingValuesAreFound }
-    ensures dumps { MissingValuesStopDumps }
 {}
 
 /// States four laws, and does nothing. They compare the rules by which `nc_file` reads a header, the strict ones, with those by which
@@ -180,11 +177,15 @@ pub fn reports_without_errors_have_values()
     ensures values { ReportsWithoutErrorsHaveValues }
 {}
 
-/// States two laws, and does nothing. `holds`: the report of a file has no fault, and doesn't find values to be missing, exactly if the
-/// file holds a dataset: the one whose text `ncdump` prints.
+/// States three laws of the report of a file, and does nothing. They name the kinds of findings that stop a dump (`stops_dump`): those of
+/// faults, and [`Kind::Missing`](nc_report::Kind::Missing). `dumped`: no finding has such a kind exactly if `ncdump` prints the whole file:
+/// the dump of all values ends with the whole text.
 ///
-/// `generated`: the report of a file that `ncgen` writes has no fault, and doesn't find values to be missing.
+/// `holds`: that is so exactly if the file holds a dataset, the one whose text is printed.
+///
+/// `generated`: and it is so in the report of a file that `ncgen` writes.
 pub fn whole_files_hold_datasets()
+    ensures dumped { WholeReportsAreDumped }
     ensures holds { WholeFilesHoldDatasets }
     ensures generated { GeneratedFilesAreFoundWhole }
 {}
