@@ -1,3 +1,4 @@
+use Rattle.cdl_tokens.proofs.Prelude.{common_steps}
 use Rattle.std.proofs.Common.{arith, rules, ◌≡◌, ◌<◌, ◌≤◌, length, true, slice_index_or}
 use Rattle.cdl_tokens.specs.Bytes.{is_digit}
 use Rattle.cdl_tokens.proofs.Decimals.{one_digit}
@@ -5,17 +6,7 @@ use Rattle.cdl_tokens.proofs.Sizes.{one_longer, short_number}
 use Rattle.cdl_tokens.proofs.numeral.digits_up_to.Goals as goal
 
 pub digits-preserved : goal.digits-preserved
-digits-preserved c =
-    let l = c.digits in
-    let bs = c.args.bytes.now in
-    let is : is_digit (slice_index_or bs l.at 0) ≡ true = search rules in
-    let test = c.digits-test.true in
-    let room : l.at < length bs = omega (arith, test, c.requires.within) in
-    record {
-      short = omega (arith, test, c.requires.short);
-      small = one_longer l.at l.value (slice_index_or bs l.at 0) l.invariant.small is;
-      read = one_digit bs l.at l.value room is l.invariant.read;
-    }
+digits-preserved c = grind (arith, common_steps, one_digit, one_longer)
 
 pub overflow_mul-value : goal.overflow_mul-value
 overflow_mul-value c =

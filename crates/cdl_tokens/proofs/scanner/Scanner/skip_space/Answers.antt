@@ -1,3 +1,4 @@
+use Rattle.cdl_tokens.proofs.Prelude.{rules}
 use Rattle.std.proofs.Common.{◌+◌, sym, ap, ◌∙◌}
 use Rattle.cdl_tokens.specs.Bytes.{is_blank}
 use Rattle.cdl_tokens.proofs.Scans.{left_of}
@@ -5,12 +6,7 @@ use Rattle.cdl_tokens.proofs.PlainTokens.{blank_at, past_blank}
 use Rattle.cdl_tokens.proofs.scanner.Scanner.skip_space.Goals as goal
 
 pub after_gap-requires-clause-gap : goal.after_gap-requires-clause-gap
-after_gap-requires-clause-gap c =
-    let s = c.args.self.now in
-    blank_at s.text.now s.at_start s.at (ap is_blank c.if-self-eq32.true)
+after_gap-requires-clause-gap c = search (rules, blank_at)
 
 pub returns-then-self-eq32-clause-left : goal.returns-then-self-eq32-clause-left
-returns-then-self-eq32-clause-left c =
-    let s = c.args.self.now in
-    let a = c.after_gap in
-    left_of a.result s.text.now s.at_start (s.at + 1) a.ensures.text a.ensures.at_start a.ensures.at ∙ sym (past_blank s.text.now s.at_start s.at c.if-self.true (ap is_blank c.if-self-eq32.true))
+returns-then-self-eq32-clause-left c = search (rules, left_of, past_blank)
