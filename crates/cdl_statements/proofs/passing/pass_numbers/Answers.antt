@@ -1,11 +1,9 @@
-use Rattle.cdl_statements.proofs.Prelude.{subst, SamePlace, reached, ValueList}
+use Rattle.cdl_statements.proofs.Prelude.{subst, SamePlace, reached, ValueList, rules}
 use Rattle.cdl_statements.proofs.PassedValues.{ended_at, stays}
 use Rattle.cdl_statements.proofs.passing.pass_numbers.Goals as goal
 
 pub numbers-init : goal.numbers-init
-numbers-init c =
-    let a = c.args in
-    record { so = ended_at a.takes_fill a.start a.start (reached c.new-list.result) c.new-list.ensures (stays a.takes_fill a.start c.requires.at) }
+numbers-init c = search (rules, ended_at, stays)
 
 pub returns : goal.returns
 returns c =
