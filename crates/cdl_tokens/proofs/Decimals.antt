@@ -1,7 +1,7 @@
 -- Decimal numbers, digit by digit.
-use Rattle.cdl_tokens.proofs.Prelude.{common_steps, prefix_len, take_while, Version, is_digit, number_in, ReadsDigits, held, in_decimal, type_of_suffix, ◌≡◌, ℕ, true, false, ◌+◌, ◌*◌, ◌-◌, ◌<◌, List, [], ◌∷◌, get_or, length, take, drop, refl, sym, ap, ◌∙◌, arith, Bool, Some, ◌==◌, nat_lt, option_map, slice_index}
+use Rattle.cdl_tokens.proofs.Prelude.{common_steps, prefix_len, take_while, Version, is_digit, number_in, ReadsDigits, held, in_decimal, type_of_suffix, ◌≡◌, ℕ, true, false, ◌+◌, ◌*◌, ◌-◌, ◌<◌, List, [], ◌∷◌, get_or, length, take, drop, refl, sym, ap, ◌∙◌, arith, Bool, Some, ◌==◌, nat_lt, option_map, slice_index, rules}
 use Rattle.nc_base.specs.declared.nc_type.NcType.{NcType}
-use Rattle.cdl_tokens.proofs.Steps.{take_one_more}
+use Rattle.cdl_tokens.proofs.Steps.{take_one_more, none_first}
 
 -- the first bytes that are decimal digits
 abbrev decimals : List ℕ → List ℕ
@@ -14,19 +14,11 @@ there : (bs : List ℕ) (i : ℕ) → i < length bs → drop i bs ≡ get_or bs 
 there bs i h = grind (arith, common_steps)
 
 pub one_digit : (bs : List ℕ) (i value : ℕ) → i < length bs → is_digit (get_or bs i 0) ≡ true → ReadsDigits bs i value → ReadsDigits bs (i + 1) (10 * value + (get_or bs i 0 - 0x30))
-one_digit bs i value h is read = grind (arith, there bs i h, one_more (get_or bs i 0) (drop (i + 1) bs) is)
+one_digit bs i value h is read = grind (arith, common_steps, one_more (get_or bs i 0) (drop (i + 1) bs) is)
 
 -- no digit follows those that were read: they are all
 pub all_read : (bs : List ℕ) (n value : ℕ) → ReadsDigits bs n value → is_digit (slice_index (drop n bs) 0) ≡ false → (prefix_len is_digit bs ≡ n) × (number_in 10 0 (take n bs) ≡ value)
-all_read bs n value read off = by (drop n bs) read.count read.said off
-  where
-    by : (rest : List ℕ) → n + prefix_len is_digit rest ≡ prefix_len is_digit bs → number_in 10 value (decimals rest) ≡ number_in 10 0 (decimals bs) → is_digit (slice_index rest 0) ≡ false →
-        (prefix_len is_digit bs ≡ n) × (number_in 10 0 (take n bs) ≡ value)
-    by [] count is off = let all : prefix_len is_digit bs ≡ n = omega (arith, count) in (all, ap (λ k. number_in 10 0 (take k bs)) (sym all) ∙ sym is)
-    by (b ∷ rest) count is off =
-        let none : prefix_len is_digit (b ∷ rest) ≡ 0 = rw (off) refl in
-        let all : prefix_len is_digit bs ≡ n = omega (arith, count, none) in
-        (all, ap (λ k. number_in 10 0 (take k bs)) (sym all) ∙ sym is ∙ ap (λ k. number_in 10 value (take k (b ∷ rest))) none)
+all_read bs n value read off = grind (arith, none_first is_digit (drop n bs) off, read.count, read.said)
 
 -- what the digits and the suffix after them say
 pub said : (v : Version) (minus : Bool) (bs : List ℕ) (n value : ℕ) (ty : NcType) → prefix_len is_digit bs ≡ n → number_in 10 0 (take n bs) ≡ value → type_of_suffix v (drop n bs) ≡ Some ty → (n == 0) ≡ false → nat_lt 18446744073709551615 value ≡ false →

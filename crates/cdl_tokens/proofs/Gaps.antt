@@ -19,9 +19,7 @@ blank_feeds [] = record { feeds = λ e. refl }
 blank_feeds (b ∷ bs) = record { feeds = λ e. grind arith }
 
 comment_feeds : (bs : List ℕ) → begins_comment bs ≡ true → FeedsFirst bs (gap (prefix_len (λ b. not (b == 0x0a)) bs))
-comment_feeds bs h =
-    let slash : get_or bs 0 0 ≡ 0x2f = grind (arith, eqb-true, h) in
-    record { feeds = λ e. run_flat (λ b. not (b == 0x0a)) (λ b g. grind (arith, g)) bs ∙ sym (rw (slash) refl) }
+comment_feeds bs h = search (rules, run_flat)
 
 pub gap_feeds : (at_start : Bool) (bs : List ℕ) → FeedsFirst bs (scan at_start bs)
 unfolding scan

@@ -1,9 +1,9 @@
 -- From the mask of a block of bytes to the run of bytes at which no lane stops.
-use Rattle.std.proofs.Common.{◌≡◌, ℕ, suc, ◌+◌, ◌*◌, ◌/◌, ◌%◌, ◌^◌, ◌<◌, ◌≤◌, Bool, true, not, ◌||◌, cond, eqb, List, [], ◌∷◌, map, rules, length, ◌++◌, take, drop, get_or, replicate, bit_and, count_by, refl, ap, ap₂, ◌∙◌, arith, w8, Fits}
+use Rattle.std.proofs.Common.{◌≡◌, ℕ, suc, ◌+◌, ◌*◌, ◌/◌, ◌%◌, ◌^◌, ◌<◌, ◌≤◌, Bool, true, not, ◌||◌, cond, eqb, List, [], ◌∷◌, map, rules, length, ◌++◌, take, drop, get_or, replicate, bit_and, count_by, refl, ap, ap₂, ◌∙◌, arith, w8, Fits, sym}
 use Rattle.std.proofs.lemmas.Simd.{zip2_of_maps, zip2_splat, mask_l-mod, chunk-drop, length-chunk, first_set_mask_l, Each1-all, Each1-zip2, Each2-splat, length-zip2, SwzOk, SwzOk-from_below, swz_l, get_or-swz_l_below}
 use Rattle.std.proofs.lemmas.Bool.{agree_below, agree_below_at}
 use Rattle.std.proofs.lemmas.Nat.{and_le_r}
-use Rattle.std.proofs.lemmas.List.{length-map}
+use Rattle.std.proofs.lemmas.List.{length-map, map-id}
 use Rattle.std.proofs.lemmas.List.Sums.{prefix_len-le-length, sum_by-append}
 use Rattle.std.proofs.lemmas.Bool.Decides.{nat_tests}
 use Rattle.std.specs.List.{prefix_len}
@@ -11,6 +11,7 @@ use lib.Lanes.{chunk, mask_l, top, zip2, Each1}
 use lib.Bits.{bit_or}
 use Rattle.cdl_tokens.proofs.Scans.{take_more}
 use lib.Count.{count_trailing_zeros}
+use Rattle.std.proofs.Math.Seq.{take-add}
 
 abbrev hit : ℕ → ℕ → ℕ
 hit a b = cond (eqb a b) 255 0
@@ -47,9 +48,7 @@ low_ok v long =
 
 looked_up : (t v : List ℕ) (i : ℕ) → i + length v ≤ 16 → swz_l w8 16 t i (map low v) ≡ map (λ x. get_or t (low x) 0) v
 looked_up t [] i few = refl
-looked_up t (x ∷ xs) i few =
-    let place : 16 * ((i + 0) / 16) + low x ≡ low x = omega arith in
-    ap₂ (λ a b. a ∷ b) (get_or-swz_l_below w8 16 t i (low x ∷ map low xs) 0 (omega arith) (low_below x) ∙ ap (λ k. get_or t k 0) place) (looked_up t xs (suc i) (omega arith))
+looked_up t (x ∷ xs) i few = search (rules, get_or-swz_l_below, low_below, looked_up t xs (suc i) (omega arith))
 
 itself : (v : List ℕ) → v ≡ map (λ x. x) v
 itself [] = refl
@@ -58,8 +57,7 @@ itself (x ∷ xs) = ap (λ l. x ∷ l) (itself xs)
 pub listed : (t v : List ℕ) (p : ℕ → Bool) → length v ≡ 16 → Each1 (Fits w8) v → agree_below (λ x. top 7 (hit (get_or t (low x) 0) x)) p 256 ≡ true
     → mask_l (map (top 7) (zip2 hit (swz_l w8 16 t 0 (zip2 bit_and v (replicate 16 15))) v)) % 2 ^ 64 ≡ mask_l (map p v)
 listed t v p long fits all =
-    let lows : zip2 bit_and v (replicate 16 15) ≡ map low v = zip2_splat bit_and v 16 15 long in
-    masked (λ x. hit (get_or t (low x) 0) x) p v _ long fits (zip2_of_maps hit _ _ v (ap (swz_l w8 16 t 0) lows ∙ looked_up t v 0 (omega arith)) (itself v))
+    masked (λ x. hit (get_or t (low x) 0) x) p v _ long fits (zip2_of_maps hit _ _ v (ap (swz_l w8 16 t 0) (zip2_splat bit_and v 16 15 long) ∙ looked_up t v 0 (omega arith)) (sym (map-id v)))
     (λ x below. agree_below_at (λ y. top 7 (hit (get_or t (low y) 0) y)) p 256 x all below)
 
 module _ (p : ℕ → Bool) where
@@ -77,4 +75,4 @@ module _ (p : ℕ → Bool) where
       grind (arith, is, chunk-drop i n d, stops (chunk i n d) (drop (i + n) d), first_set_mask_l p (chunk i n d) n, length-chunk i n d, prefix_len-le-length (λ x. not (p x)) (chunk i n d))
 
 pub counted_more : (p : ℕ → Bool) (d : List ℕ) (i n : ℕ) → count_by p (take (i + n) d) ≡ count_by p (take i d) + count_by p (chunk i n d)
-counted_more p d i n = rw (take_more d i n) (sum_by-append (λ b. cond (p b) 1 0) (take i d) (chunk i n d))
+counted_more p d i n = rw (take-add i n d) (sum_by-append (λ b. cond (p b) 1 0) (take i d) (chunk i n d))

@@ -1,11 +1,11 @@
 -- What plain numbers say.
-use Rattle.cdl_tokens.proofs.Prelude.{prefix_len, prefix_len-le-length, get_or-drop, length-drop, Int, NcType, Version, goes_on_number, is_digit, is_octal, is_sign, number_in, held, parts, with_sign, Begins, BeginsDecimal, BeginsUnsigned, IsLetterOf, IsSuffix, begins_number, ends_value, ◌≡◌, ℕ, zero, suc, ◌+◌, ◌<◌, ◌≤◌, Bool, true, false, List, [], ◌∷◌, length, take, drop, refl, sym, ap, ◌∙◌, arith, Some, ◌==◌, nat_lt, option_map, slice_index, rules, subst}
+use Rattle.cdl_tokens.proofs.Prelude.{prefix_len, prefix_len-le-length, get_or-drop, length-drop, Int, NcType, Version, goes_on_number, is_digit, is_octal, is_sign, number_in, held, parts, with_sign, Begins, BeginsDecimal, BeginsUnsigned, IsLetterOf, IsSuffix, begins_number, ends_value, ◌≡◌, ℕ, zero, suc, ◌+◌, ◌<◌, ◌≤◌, Bool, true, false, List, [], ◌∷◌, length, take, drop, refl, sym, ap, ◌∙◌, arith, Some, ◌==◌, nat_lt, option_map, slice_index, rules, subst, common_steps}
 use Rattle.cdl_tokens.specs.declared.numeral.Numeral.{Numeral}
 use Rattle.cdl_tokens.specs.declared.plain_number.PlainMagnitude.{PlainMagnitude}
 use Rattle.std.proofs.lemmas.List.{take-take, drop-take}
 use Rattle.cdl_tokens.proofs.Decimals.{all_read, said}
 use Rattle.cdl_tokens.proofs.PlainTokens.{digit_number, ended_low}
-use Rattle.cdl_tokens.proofs.Steps.{drop_one_more}
+use Rattle.cdl_tokens.proofs.Steps.{drop_one_more, none_first}
 use Rattle.cdl_tokens.proofs.Suffixes.{no_suffix}
 use mir.Val.{bool_byte}
 
@@ -36,9 +36,7 @@ record AreDigits (bs : List ℕ) (n value : ℕ) : Type 0 where
 
 -- no digit follows those that were read
 are_digits : (bs : List ℕ) (n value : ℕ) → BeginsDecimal bs n value → is_digit (slice_index (drop n bs) 0) ≡ false → AreDigits bs n value
-are_digits bs n value d off =
-    let all = all_read bs n value d.reads off in
-    record { some = d.some; within = d.reads.within; count = all.0; said = all.1; small = d.small; plain = d.plain }
+are_digits bs n value d off = search (rules, all_read, said)
 
 -- the first digit
 first_digit : (bs : List ℕ) (n value : ℕ) → AreDigits bs n value → is_digit (slice_index bs 0) ≡ true
@@ -52,17 +50,7 @@ taken_digits (b ∷ bs) zero h = let e : prefix_len is_digit (b ∷ bs) ≤ 0 = 
 taken_digits (b ∷ bs) (suc k) h = search (rules, taken_digits bs k)
 
 taken : (bs : List ℕ) (n k value : ℕ) → AreDigits bs n value → n ≤ k → AreDigits (take k bs) n value
-taken bs n k value d h =
-    let count = taken_digits bs k (omega (arith, h, d.count)) ∙ d.count in
-    let within = prefix_len-le-length is_digit (take k bs) in
-    record {
-      some = d.some;
-      within = omega (arith, within, count);
-      count = count;
-      said = ap (number_in 10 0) (take-take n k bs h) ∙ d.said;
-      small = d.small;
-      plain = λ zero. d.plain (sym (first_taken k bs (omega (arith, h, d.some))) ∙ zero);
-    }
+taken bs n k value d h = search (rules, prefix_len-le-length, take-take, said, first_taken, taken_digits)
 
 -- a zero and a suffix
 no_octal : (bs : List ℕ) → is_digit (slice_index bs 0) ≡ false → prefix_len is_octal bs ≡ 0
@@ -70,24 +58,12 @@ no_octal [] h = refl
 no_octal (b ∷ bs) h = rw (let off : is_octal b ≡ false = grind (arith, h) in off) refl
 
 zero_said : (v : Version) (minus : Bool) (bs : List ℕ) (ty : NcType) → IsSuffix bs ty → Some (record { minus = minus; magnitude = Some 0; ty = ty }) ≡ option_map held (with_sign v minus (0x30 ∷ bs))
-zero_said v minus bs ty h = rw (h.no_x) (rw (no_octal bs h.no_digit) (rw (h.says v) refl))
+zero_said v minus bs ty h = let off : is_octal (slice_index bs 0) ≡ false = grind (arith, h.no_digit) in rw (h.no_x) (rw (none_first is_octal bs off) (rw (h.says v) refl))
 
 -- digits and a suffix say their number
 digits_said : (v : Version) (minus : Bool) (bs : List ℕ) (n value : ℕ) (ty : NcType) → AreDigits bs n value → IsSuffix (drop n bs) ty → Some (record { minus = minus; magnitude = Some value; ty = ty }) ≡ option_map held (with_sign v minus bs)
 digits_said v minus [] n value ty d suffix = absurd (let e : n ≤ 0 = d.within in omega (arith, e, d.some))
-digits_said v minus (b ∷ bs) n value ty d suffix = by (b == 0x30) refl
-  where
-    by : (z : Bool) → (b == 0x30) ≡ z → Some (record { minus = minus; magnitude = Some value; ty = ty }) ≡ option_map held (with_sign v minus (b ∷ bs))
-    by true is =
-        let naught : b ≡ 0x30 = grind (arith, is) in
-        let one : n ≡ 1 = d.plain naught in
-        let none : value ≡ 0 = sym d.said ∙ ap (λ k. number_in 10 0 (take k (b ∷ bs))) one ∙ ap (λ x. number_in 10 0 (x ∷ [])) naught in
-        let rest : IsSuffix bs ty = subst (λ k. IsSuffix (drop k (b ∷ bs)) ty) one suffix in
-        rw (none) (rw (naught) (zero_said v minus bs ty rest))
-    by false is =
-        let some : (n == 0) ≡ false = grind (arith, d.some) in
-        let small : nat_lt 18446744073709551615 value ≡ false = grind (arith, d.small) in
-        said v minus (b ∷ bs) n value ty d.count d.said (suffix.says v) some small ∙ rw (is) refl
+digits_said v minus (b ∷ bs) n value ty d suffix = search (rules, said, zero_said)
 
 is_one : (b k : ℕ) → (b == k) ≡ true → b ≡ k
 is_one b k h = grind (arith, h)
@@ -121,7 +97,7 @@ without_suffix bs n value at_comma d ends comma =
 -- a letter follows them
 one_more : (bs : List ℕ) → goes_on_number (slice_index bs 0) ≡ true → goes_on_number (slice_index bs 1) ≡ false → (take 1 bs ≡ slice_index bs 0 ∷ []) × (prefix_len goes_on_number bs ≡ 1)
 one_more [] h h2 = cc
-one_more (b ∷ bs) h h2 = (refl, rw (h) (ap (λ k. 1 + k) (no_more bs h2).1))
+one_more (b ∷ bs) h h2 = (refl, rw (h) (ap (λ k. 1 + k) (none_first goes_on_number bs h2)))
 
 pub with_letter : (bs : List ℕ) (n value : ℕ) (ty : NcType) (at_comma : Bool) → BeginsDecimal bs n value → IsLetterOf ty (slice_index (drop n bs) 0) → ends_value (slice_index (drop n bs) 1) ≡ true → at_comma ≡ (slice_index (drop n bs) 1 == 0x2c) →
     BeginsUnsigned bs (record { len = n + 1; value = value; ty = ty; at_comma = at_comma })
@@ -155,27 +131,11 @@ sign_within bs rest n h h2 h3 = grind arith
 
 begins_signed : (bs rest : List ℕ) (n : PlainMagnitude) (b : ℕ) (m : Numeral) → b ≡ slice_index bs 0 → is_sign b ≡ true → m ≡ numeral (b == 0x2d) n → drop 1 bs ≡ rest → BeginsUnsigned rest n →
     Begins bs (record { numeral = m; len = 1 + n.len; at_comma = n.at_comma })
-begins_signed bs rest n b m first sign says is d =
-    let signed : is_sign (slice_index bs 0) ≡ true = ap is_sign (sym first) ∙ sign in
-    record {
-      begins = sign_begins bs rest signed is d.digit;
-      len = ap (λ k. 1 + k) (d.len ∙ ap (prefix_len goes_on_number) (sym is));
-      within = sign_within bs rest n.len signed is d.within;
-      comma = λ here. sym (get_or-drop 1 bs n.len 0) ∙ ap (λ (xs : List ℕ). slice_index xs n.len) is ∙ d.comma here;
-      says = λ v. ap Some (says ∙ ap (λ x. numeral (x == 0x2d) n) first) ∙ sign_said v bs rest n signed is d;
-    }
+begins_signed bs rest n b m first sign says is d = search (rules, get_or-drop, sign_said, sign_begins, sign_within)
 
 begins_unsigned : (bs : List ℕ) (n : PlainMagnitude) (b : ℕ) (m : Numeral) → b ≡ slice_index bs 0 → is_sign b ≡ false → m ≡ numeral false n → BeginsUnsigned bs n →
     Begins bs (record { numeral = m; len = n.len; at_comma = n.at_comma })
-begins_unsigned bs n b m first sign says d =
-    let len = len_after_first bs n d in
-    record {
-      begins = digit_number bs d.digit;
-      len = len;
-      within = d.within;
-      comma = d.comma;
-      says = λ v. ap Some says ∙ plain_said v bs n (ap is_sign (sym first) ∙ sign) (omega (arith, len)) d;
-    }
+begins_unsigned bs n b m first sign says d = search (rules, digit_number, plain_said, len_after_first)
 
 -- with a minus or no sign
 pub begins_either : (bs rest : List ℕ) (n : PlainMagnitude) (b : ℕ) (minus : Bool) → b ≡ slice_index bs 0 → (b == 0x2d) ≡ minus → drop (bool_byte minus) bs ≡ rest → BeginsUnsigned rest n →

@@ -1,5 +1,5 @@
 -- Marks and numbers at the start of bytes: they are no other token, and have no line feed.
-use Rattle.cdl_tokens.proofs.Prelude.{prefix_len, Number, Mark, may_begin_word, goes_on_number, is_mark_byte, is_blank, is_digit, is_sign, scan, token, gap, begins_number, begins_opening, ends_value, get_or-drop, sum_by-append, false≢true, TokenKind, is_token, followed, tokens_at, line_at, ◌≡◌, ℕ, zero, suc, ◌+◌, ◌<◌, ◌≤◌, Bool, true, false, cond, List, [], ◌∷◌, length, get_or, drop, take, sym, ◌∙◌, ap, refl, arith, subst, ◌==◌, ◌||◌, count_by, Some, length-drop, rules}
+use Rattle.cdl_tokens.proofs.Prelude.{prefix_len, Number, Mark, may_begin_word, goes_on_number, is_mark_byte, is_blank, is_digit, is_sign, scan, token, gap, begins_number, begins_opening, ends_value, get_or-drop, sum_by-append, false≢true, TokenKind, is_token, followed, tokens_at, line_at, ◌≡◌, ℕ, zero, suc, ◌+◌, ◌<◌, ◌≤◌, Bool, true, false, cond, List, [], ◌∷◌, length, get_or, drop, take, sym, ◌∙◌, ap, refl, arith, subst, ◌==◌, ◌||◌, count_by, Some, length-drop, rules, common_steps}
 use Rattle.cdl_tokens.proofs.Scans.{step_gap, step_token, line_more}
 use Rattle.cdl_tokens.proofs.Steps.{take_one_more}
 use Rattle.cdl_tokens.proofs.Words.{and_false}
@@ -26,7 +26,7 @@ mark_classes b h = search (rules, each_mark)
 
 -- a comma or white space
 pub ended_low : (b : ℕ) → ends_value b ≡ true → (b ≤ 0x2c) × ((b == 0x2b) ≡ false)
-ended_low b h = or_split (b == 0x2c) (is_blank b) h (λ comma. at_byte (λ b. (b ≤ 0x2c) × ((b == 0x2b) ≡ false)) 0x2c b (omega arith, refl) comma) (λ blank. let low : b ≤ 0x20 = grind (arith, blank) in (omega (arith, low), grind (arith, low)))
+ended_low b h = search (rules, or_split, at_byte)
 
 -- a mark
 pub scan_mark : (at_start : Bool) (bs : List ℕ) → is_mark_byte (get_or bs 0 0) ≡ true → scan at_start bs ≡ token Mark 1
@@ -79,9 +79,6 @@ digits_flat bs = run_flat goes_on_number (λ b h. grind (arith, h)) bs
 pub number_flat : (bs : List ℕ) → begins_number bs ≡ true → count_by (λ b. b == 0x0a) (take (1 + prefix_len goes_on_number (drop 1 bs)) bs) ≡ 0
 number_flat bs h = grind (arith, false≢true, number_low, feeds_on, digits_flat)
 
-pub mark_flat : (bs : List ℕ) → is_mark_byte (get_or bs 0 0) ≡ true → count_by (λ b. b == 0x0a) (take 1 bs) ≡ 0
-mark_flat bs h = grind (arith, mark_classes, feeds_on)
-
 -- at a place of a text
 pub blank_at : (text : List ℕ) (at_start : Bool) (at : ℕ) → is_blank (get_or text at 0) ≡ true → scan at_start (drop at text) ≡ gap 1
 blank_at text at_start at h = grind (arith, get_or-drop at text 0 0, scan_blank at_start (drop at text))
@@ -96,10 +93,7 @@ inside_at (b ∷ bs) zero h = omega arith
 inside_at (b ∷ bs) (suc at) h = let e = inside_at bs at h in omega (arith, e)
 
 pub comma_at : (text : List ℕ) (at_start : Bool) (at : ℕ) → get_or text at 0 ≡ 0x2c → scan at_start (drop at text) ≡ token Mark 1
-comma_at text at_start at h = scan_mark at_start (drop at text) (ap is_mark_byte (here_dropped text at ∙ h))
-
-pub comma_flat : (text : List ℕ) (at : ℕ) → get_or text at 0 ≡ 0x2c → count_by (λ b. b == 0x0a) (take 1 (drop at text)) ≡ 0
-comma_flat text at h = mark_flat (drop at text) (ap is_mark_byte (here_dropped text at ∙ h))
+comma_at text at_start at h = grind (arith, get_or-drop at text 0 0, scan_mark at_start (drop at text))
 
 pub past_blank : (text : List ℕ) (at_start : Bool) (at : ℕ) → at < length text → is_blank (get_or text at 0) ≡ true → tokens_at text at_start at 0 (drop at text) ≡ tokens_at text at_start (at + 1) 0 (drop (at + 1) text)
 past_blank text at_start at inside h =

@@ -3,6 +3,7 @@ use Rattle.cdl_tokens.proofs.Prelude.{sum_by-append, Scanned, Token, TokenKind, 
 use Rattle.cdl_tokens.specs.declared.scanner.Scanner.{Scanner}
 use Rattle.cdl_tokens.proofs.Steps.{tokens_more, tokens_past}
 use Rattle.cdl_tokens.proofs.Words.{and_false, and_yes}
+use Rattle.std.proofs.Math.Seq.{take-add}
 
 pub followed_token : (t : Token) (kind : TokenKind) (rest : List Token) → is_token (Some kind) ≡ true → followed t kind rest ≡ t ∷ rest
 followed_token t kind rest h = grind arith
@@ -36,4 +37,4 @@ take_more [] (suc at) n = ap (λ m. take m []) (let e : suc at + n ≡ suc (at +
 take_more (b ∷ text) (suc at) n = ap (λ m. take m (b ∷ text)) (let e : suc at + n ≡ suc (at + n) = omega arith in e) ∙ ap (λ xs. b ∷ xs) (take_more text at n)
 
 pub line_more : (text : List ℕ) (at n : ℕ) → line_at text (at + n) ≡ line_at text at + count_by (λ b. b == 0x0a) (take n (drop at text))
-line_more text at n = rw (take_more text at n) (rw (sum_by-append (λ b. cond (b == 0x0a) 1 0) (take at text) (take n (drop at text))) (omega arith))
+line_more text at n = rw (take-add at n text) (rw (sum_by-append (λ b. cond (b == 0x0a) 1 0) (take at text) (take n (drop at text))) (omega arith))

@@ -1,5 +1,5 @@
 -- The tokens, one gap or token on.
-use Rattle.cdl_tokens.proofs.Prelude.{at_drop_more, at_drop_all, drop-drop, Scanned, End, scan, tokens_at, token_at, with_token, ◌≡◌, ℕ, zero, suc, ◌+◌, ◌-◌, ◌<◌, ◌≤◌, Bool, List, [], ◌∷◌, length, drop, take, ap, arith, ◌&&◌, is_none, rules}
+use Rattle.cdl_tokens.proofs.Prelude.{at_drop_more, at_drop_all, drop-drop, Scanned, End, scan, tokens_at, token_at, with_token, ◌≡◌, ℕ, zero, suc, ◌+◌, ◌-◌, ◌<◌, ◌≤◌, Bool, List, [], ◌∷◌, length, drop, take, ap, arith, ◌&&◌, is_none, rules, prefix_len, false, slice_index, refl}
 
 pub drop_some : (n b : ℕ) (bytes : List ℕ) → 0 < n → drop n (b ∷ bytes) ≡ drop (n - 1) bytes
 drop_some n b bytes h = grind arith
@@ -9,6 +9,11 @@ drop_one_more b n bytes = ap (λ m. drop m (b ∷ bytes)) (let e : 1 + n ≡ suc
 
 pub take_one_more : (b n : ℕ) (bytes : List ℕ) → take (1 + n) (b ∷ bytes) ≡ b ∷ take n bytes
 take_one_more b n bytes = ap (λ m. take m (b ∷ bytes)) (let e : 1 + n ≡ suc n = omega arith in e)
+
+-- no byte passes where the first doesn't
+pub none_first : (p : ℕ → Bool) (bytes : List ℕ) → p (slice_index bytes 0) ≡ false → prefix_len p bytes ≡ 0
+none_first p [] h = refl
+none_first p (b ∷ bytes) h = rw (h) refl
 
 -- after the bytes that are still to come
 pub tokens_skip : (text : List ℕ) (at_start : Bool) (more : ℕ) (at : ℕ) (bytes : List ℕ) → more ≤ length bytes →

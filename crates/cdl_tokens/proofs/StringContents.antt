@@ -1,10 +1,11 @@
 -- What a string has between its quotes, one escape on.
-use Rattle.cdl_tokens.proofs.Prelude.{list_all, prefix_len, take_while, character, unescape, unescape_at, is_octal, is_hex, is_ordinary, len_until, number_escape, plain_escape, ◌≡◌, ℕ, zero, suc, ◌+◌, ◌<◌, Bool, true, false, cond, List, [], ◌∷◌, length, take, drop, min, refl, sym, ap, ◌∙◌, subst, arith, ◌==◌, ◌&&◌, Some, is_some, slice_index, if◌then◌else◌, rules}
+use Rattle.cdl_tokens.proofs.Prelude.{list_all, prefix_len, take_while, character, unescape, unescape_at, is_octal, is_hex, is_ordinary, len_until, number_escape, plain_escape, ◌≡◌, ℕ, zero, suc, ◌+◌, ◌<◌, Bool, true, false, cond, List, [], ◌∷◌, length, take, drop, min, refl, sym, ap, ◌∙◌, subst, arith, ◌==◌, ◌&&◌, Some, is_some, slice_index, if◌then◌else◌, rules, common_steps, eqb-true}
 use Rattle.cdl_tokens.specs.declared.scan.Character.{Character}
 use Rattle.std.proofs.lemmas.List.Sums.{take_while-cons}
 use Rattle.cdl_tokens.proofs.Steps.{drop_one_more, take_one_more}
 use Rattle.cdl_tokens.proofs.Strings.{unescape_at_start, unescape_unescaped}
-use Rattle.cdl_tokens.proofs.Words.{until_at_start, until_run}
+use Rattle.cdl_tokens.proofs.Words.{until_at_start, until_run, until_at}
+use Rattle.std.proofs.lemmas.List.{drop_min}
 
 -- the bytes before the closing quote
 abbrev pub contents : List ℕ → List ℕ
@@ -23,9 +24,7 @@ ordinary_first : (b : ℕ) (bs : List ℕ) → is_ordinary 0x22 b ≡ true → c
 ordinary_first b bs h = ap (λ n. take n (b ∷ bs)) (until_ordinary b bs h) ∙ take_one_more b (len_until 0x22 bs) bs
 
 ordinary_good : (b : ℕ) (bs : List ℕ) → is_ordinary 0x22 b ≡ true → are_good (contents (b ∷ bs)) ≡ are_good (contents bs)
-ordinary_good b bs h =
-    let other : (b == 0x5c) ≡ false = grind (arith, h) in
-    ap are_good (ordinary_first b bs h) ∙ ap (list_all is_some) (unescape_unescaped b (contents bs) other)
+ordinary_good b bs h = grind (arith, h, ordinary_first b bs, unescape_unescaped b (contents bs))
 
 run_good : (bs : List ℕ) → are_good (contents bs) ≡ are_good (contents (drop (prefix_len (is_ordinary 0x22) bs) bs))
 run_good [] = refl
@@ -37,19 +36,18 @@ no_contents : contents [] ≡ []
 unfolding len_until
 no_contents = refl
 
+-- none of the first bytes passes where the first of all doesn't
+none_taken : (p : ℕ → Bool) (k n b : ℕ) (bs : List ℕ) → p b ≡ false → take_while p (take k (take n (b ∷ bs))) ≡ []
+none_taken p zero n b bs off = refl
+none_taken p (suc k) zero b bs off = refl
+none_taken p (suc k) (suc n) b bs off = take_while-cons p b (take k (take n bs)) ∙ rw (off) refl
+
 -- the digits of an escape stand before the closing quote
 digits_inside : (p : ℕ → Bool) (k : ℕ) (bs : List ℕ) → ((b : ℕ) → p b ≡ true → is_ordinary 0x22 b ≡ true) → take_while p (take k (contents bs)) ≡ take_while p (take k bs)
 digits_inside p zero bs h = refl
 digits_inside p (suc k) [] h = ap (λ xs. take_while p (take (suc k) xs)) no_contents
-digits_inside p (suc k) (b ∷ bs) h = by (digits_inside p k bs h) (p b) refl ∙ sym (take_while-cons p b (take k bs))
-  where
-    first : (n : ℕ) → p b ≡ false → take_while p (take (suc k) (take n (b ∷ bs))) ≡ []
-    first zero off = refl
-    first (suc n) off = take_while-cons p b (take k (take n bs)) ∙ rw (off) refl
-
-    by : take_while p (take k (contents bs)) ≡ take_while p (take k bs) → (c : Bool) → p b ≡ c → take_while p (take (suc k) (contents (b ∷ bs))) ≡ cond c (b ∷ take_while p (take k bs)) []
-    by same true on = ap (λ xs. take_while p (take (suc k) xs)) (ordinary_first b bs (h b on)) ∙ take_while-cons p b (take k (contents bs)) ∙ rw (on) (ap (λ xs. b ∷ xs) same)
-    by same false off = first (len_until 0x22 (b ∷ bs)) off
+digits_inside p (suc k) (b ∷ bs) h =
+    grind (arith, digits_inside p k bs h, h b, ordinary_first b bs, take_while-cons p b (take k bs), take_while-cons p b (take k (contents bs)), none_taken p (suc k) (len_until 0x22 (b ∷ bs)) b bs)
 
 -- digits are good
 digits_good : (p : ℕ → Bool) (k : ℕ) (bs : List ℕ) → ((b : ℕ) → p b ≡ true → (b == 0x5c) ≡ false) → are_good (drop (length (take_while p (take k bs))) bs) ≡ are_good bs
@@ -77,9 +75,7 @@ not_escaping : (b : ℕ) → is_ordinary 0x22 b ≡ true → (b == 0x5c) ≡ fal
 not_escaping b h = grind (arith, h)
 
 same_character : (c : ℕ) (xs : List ℕ) → character (0x5c ∷ c ∷ contents xs) ≡ character (0x5c ∷ c ∷ xs)
-same_character c xs =
-    escape_is c (contents xs) ∙ ap (λ octal. escape_of c octal (take_while is_hex (take 2 (contents xs)))) (digits_inside is_octal 2 xs octal_ordinary) ∙
-    ap (escape_of c (take_while is_octal (take 2 xs))) (digits_inside is_hex 2 xs hex_ordinary) ∙ sym (escape_is c xs)
+same_character c xs = grind (arith, escape_is c, digits_inside is_octal 2 xs octal_ordinary, digits_inside is_hex 2 xs hex_ordinary)
 
 octal_len : (c : ℕ) (octal hex : List ℕ) → is_octal c ≡ true → (escape_of c octal hex).len ≡ 2 + length octal
 octal_len c octal hex on = rw (on) (omega arith)
@@ -94,19 +90,17 @@ two_past : (n k a c : ℕ) (xs : List ℕ) → n ≡ 2 + k → drop n (a ∷ c �
 two_past n k a c xs is = ap (λ m. drop m (a ∷ c ∷ xs)) (let e : n ≡ suc (suc k) = omega (arith, is) in e)
 
 digits_past : (c : ℕ) (octal hex xs : List ℕ) → are_good (drop (length octal) xs) ≡ are_good xs → are_good (drop (length hex) xs) ≡ are_good xs → are_good (drop (escape_of c octal hex).len (0x5c ∷ c ∷ xs)) ≡ are_good xs
-digits_past c octal hex xs o h =
-    let past = λ (k : ℕ). two_past (escape_of c octal hex).len k 0x5c c xs in
-    grind (arith, o, h, octal_len c octal hex, hex_len c octal hex, other_len c octal hex, past (length octal), past (length hex), past 0)
+digits_past c octal hex xs o h = grind (arith, o, h, two_past (escape_of c octal hex).len (length octal) 0x5c c xs, two_past (escape_of c octal hex).len (length hex) 0x5c c xs, two_past (escape_of c octal hex).len 0 0x5c c xs)
 
 some_bytes : (c : ℕ) (octal hex : List ℕ) → 0 < (escape_of c octal hex).len
-some_bytes c octal hex = search (rules, octal_len, hex_len, other_len)
+some_bytes c octal hex = grind arith
 
 escaped_good : (c : ℕ) (xs : List ℕ) → are_good (0x5c ∷ c ∷ xs) ≡ (is_some (character (0x5c ∷ c ∷ xs)).value && are_good xs)
 escaped_good c xs =
     let octal = take_while is_octal (take 2 xs) in
     let hex = take_while is_hex (take 2 xs) in
-    ap (list_all is_some) (unescape_at_start 0x5c (c ∷ xs) (escape_of c octal hex) (sym (escape_is c xs)) (some_bytes c octal hex)) ∙
-    ap (λ g. is_some (escape_of c octal hex).value && g) (digits_past c octal hex xs (digits_good is_octal 2 xs (λ b h. not_escaping b (octal_ordinary b h))) (digits_good is_hex 2 xs (λ b h. not_escaping b (hex_ordinary b h)))) ∙ ap (λ (e : Character). is_some e.value && are_good xs) (sym (escape_is c xs))
+    let past = digits_past c octal hex xs (digits_good is_octal 2 xs (λ b h. not_escaping b (octal_ordinary b h))) (digits_good is_hex 2 xs (λ b h. not_escaping b (hex_ordinary b h))) in
+    grind (arith, past, escape_is c xs, unescape_at_start 0x5c (c ∷ xs) (escape_of c octal hex), some_bytes c octal hex)
 
 -- a backslash without a byte after it stands for a 0
 lone_good : are_good (contents (0x5c ∷ [])) ≡ (is_some (character (0x5c ∷ [])).value && are_good (contents (drop 2 (0x5c ∷ []))))
@@ -122,22 +116,17 @@ until_escape c xs = refl
 
 escape_good : (bs : List ℕ) → slice_index bs 0 ≡ 0x5c → are_good (contents bs) ≡ (is_some (character bs).value && are_good (contents (drop 2 bs)))
 escape_good [] h = cc
-escape_good (b ∷ []) h = subst (λ x. are_good (contents (x ∷ [])) ≡ (is_some (character (x ∷ [])).value && are_good (contents (drop 2 (x ∷ []))))) (sym h) lone_good
-escape_good (b ∷ c ∷ xs) h =
-    let two : contents (0x5c ∷ c ∷ xs) ≡ 0x5c ∷ c ∷ contents xs = ap (λ n. take n (0x5c ∷ c ∷ xs)) (until_escape c xs) ∙ two_more 0x5c c (len_until 0x22 xs) xs in
-    subst (λ x. are_good (contents (x ∷ c ∷ xs)) ≡ (is_some (character (x ∷ c ∷ xs)).value && are_good (contents xs))) (sym h)
-    (ap are_good two ∙ escaped_good c (contents xs) ∙ ap (λ (e : Character). is_some e.value && are_good (contents xs)) (same_character c xs))
+escape_good (b ∷ []) h = rw h lone_good
+escape_good (b ∷ c ∷ xs) h = rw h (grind (arith, until_escape c xs, two_more 0x5c c (len_until 0x22 xs) xs, escaped_good c (contents xs), same_character c xs))
 
 escape_len : (bs : List ℕ) → slice_index bs 0 ≡ 0x5c → len_until 0x22 bs ≡ min (length bs) 2 + len_until 0x22 (drop 2 bs)
 unfolding len_until
 escape_len [] h = cc
-escape_len (b ∷ []) h = subst (λ x. len_until 0x22 (x ∷ []) ≡ 1) (sym h) refl
-escape_len (b ∷ c ∷ xs) h = subst (λ x. len_until 0x22 (x ∷ c ∷ xs) ≡ min (length (x ∷ c ∷ xs)) 2 + len_until 0x22 xs) (sym h) (omega arith)
+escape_len (b ∷ []) h = rw h refl
+escape_len (b ∷ c ∷ xs) h = rw h (omega arith)
 
 past_two : (bs : List ℕ) → drop (min (length bs) 2) bs ≡ drop 2 bs
-past_two [] = refl
-past_two (b ∷ []) = refl
-past_two (b ∷ c ∷ xs) = ap (λ n. drop n (b ∷ c ∷ xs)) (let e : min (length (b ∷ c ∷ xs)) 2 ≡ 2 = omega arith in e)
+past_two bs = grind (arith, drop_min 2 bs)
 
 -- ---- a turn of the loop
 
@@ -151,19 +140,10 @@ pub record Goes (test : Bool) (n : ℕ) (bs rest : List ℕ) : Type 0 where
   pub good : are_good (contents bs) ≡ (test && are_good (contents rest))
 
 pub past_run : (bs rest : List ℕ) (n : ℕ) → n ≡ prefix_len (is_ordinary 0x22) bs → rest ≡ drop n bs → Goes true n bs rest
-past_run bs rest n is after =
-    record {
-      len = until_run 0x22 bs 0 n is ∙ ap (λ xs. n + len_until 0x22 xs) (ap (λ m. drop m bs) (let e : 0 + n ≡ n = omega arith in e) ∙ sym after);
-      good = run_good bs ∙ ap (λ xs. are_good (contents xs)) (sym (after ∙ ap (λ m. drop m bs) is));
-    }
+past_run bs rest n is after = grind (arith, until_run 0x22 bs 0 n, run_good bs)
 
 pub past_escape : (bs rest : List ℕ) (n : ℕ) → slice_index bs 0 ≡ 0x5c → n ≡ min (length bs) 2 → rest ≡ drop n bs → Goes (is_some (character bs).value) n bs rest
-past_escape bs rest n slash two after =
-    let at : drop 2 bs ≡ rest = sym (after ∙ ap (λ m. drop m bs) two ∙ past_two bs) in
-    record {
-      len = omega (arith, escape_len bs slash, ap (len_until 0x22) at, two);
-      good = escape_good bs slash ∙ ap (λ xs. is_some (character bs).value && are_good (contents xs)) at;
-    }
+past_escape bs rest n slash two after = grind (arith, past_two bs, escape_len bs slash, escape_good bs slash)
 
 no_more : (bs : List ℕ) → prefix_len (is_ordinary 0x22) bs ≡ 0 → (slice_index bs 0 == 0x5c) ≡ false → len_until 0x22 bs ≡ 0
 unfolding len_until

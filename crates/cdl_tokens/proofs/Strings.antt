@@ -1,5 +1,5 @@
 -- A string, one character on.
-use Rattle.cdl_tokens.proofs.Prelude.{list_all, prefix_len, prefix_len-le-length, plain_escape, append-nil, at_drop_all, length-take-le, take-append-drop, take-take, take_all, unescape, unescape_at, character, string_value, is_unescaped, ◌≡◌, ℕ, zero, suc, ◌+◌, ◌-◌, ◌<◌, ◌≤◌, true, false, List, [], ◌∷◌, ◌++◌, length, take, drop, sym, ◌∙◌, ap, refl, arith, ◌==◌, map, Option, Some, is_some, unwrap_or, min, set, append_assoc}
+use Rattle.cdl_tokens.proofs.Prelude.{list_all, prefix_len, prefix_len-le-length, plain_escape, append-nil, at_drop_all, length-take-le, take-append-drop, take-take, take_all, unescape, unescape_at, character, string_value, is_unescaped, ◌≡◌, ℕ, zero, suc, ◌+◌, ◌-◌, ◌<◌, ◌≤◌, true, false, List, [], ◌∷◌, ◌++◌, length, take, drop, sym, ◌∙◌, ap, refl, arith, ◌==◌, map, Option, Some, is_some, unwrap_or, min, set, append_assoc, common_steps, rules}
 use Rattle.std.proofs.Math.Seq.{take-append-add}
 use Rattle.std.proofs.lemmas.List.{drop_min, length-take, take_more_set}
 use Rattle.std.proofs.lemmas.List.Folds.{prefix_len-append}
@@ -75,10 +75,7 @@ stands_run bs n within = ap (map or_zero) (unescape_run bs n within) ∙ stands_
 
 -- the first of these bytes, as far as they were copied
 copied_part : (old new bs : List ℕ) (at n run : ℕ) → take (at + n) new ≡ take at old ++ take n bs → at ≤ length old → run ≤ n → take (at + run) new ≡ take at old ++ take run bs
-copied_part old new bs at n run copied room few =
-    let long : at + run ≡ length (take at old) + run = omega (arith, length-take-le at old room) in
-    sym (take-take (at + run) (at + n) new (omega arith)) ∙ ap (take (at + run)) copied ∙ ap (λ m. take m (take at old ++ take n bs)) long
-    ∙ take-append-add (take at old) (take n bs) run ∙ ap (λ xs. take at old ++ xs) (take-take run n bs few)
+copied_part old new bs at n run copied room few = grind (arith, length-take-le at old room, take-take (at + run) (at + n) new, take-append-add (take at old) (take n bs) run, take-take run n bs)
 
 pub run_put : (old new bs : List ℕ) (at n run : ℕ) → take (at + n) new ≡ take at old ++ take n bs → at ≤ length old → run ≡ prefix_len is_unescaped (take n bs) →
     then_rest new (at + run) (drop run bs) ≡ then_rest old at bs
@@ -92,6 +89,3 @@ pub character_put : (old bs : List ℕ) (at : ℕ) (c : Character) → at < leng
     then_rest (set old at (or_zero c.value)) (at + 1) (drop (min c.len (length bs)) bs) ≡ then_rest old at bs
 character_put old bs at c room first is some =
     rw (take_more_set old at (or_zero c.value) room, drop_min c.len bs, unescape_first bs c first is some) (append_assoc (take at old) (or_zero c.value ∷ []) (string_value (drop c.len bs)))
-
-pub plain_small : (b : ℕ) → b < 256 → plain_escape b < 256
-plain_small b h = grind (arith, h)

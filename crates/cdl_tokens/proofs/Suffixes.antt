@@ -15,6 +15,8 @@ none : (v : Version) → type_of_suffix v [] ≡ Some Int
 unfolding type_of_suffix
 none v = grind arith
 
+-- no suffix: int, which every version has
 pub no_suffix : (bs : List ℕ) (v : Version) → length bs ≡ 0 → type_of_suffix v bs ≡ Some Int
-no_suffix [] v h = none v
-no_suffix (b ∷ bs) v h = absurd (let e : suc (length bs) ≡ 0 = h in omega (arith, e))
+unfolding type_of_suffix
+no_suffix [] v h = grind arith
+no_suffix (b ∷ bs) v h = cc

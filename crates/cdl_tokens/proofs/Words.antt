@@ -1,5 +1,5 @@
 -- A word and a quoted text, one byte or escape on.
-use Rattle.cdl_tokens.proofs.Prelude.{prefix_len, is_ordinary, false≢true, cases_lt, at_drop_more, at_drop_all, drop-drop, get_or-drop, get_or_past, is_escape, goes_on_word, may_begin_word, word_len, len_until, word_value, ◌≡◌, ℕ, ◌+◌, ◌<◌, ◌≤◌, Bool, true, false, List, [], ◌∷◌, length, get_or, drop, sym, ◌∙◌, ap, refl, arith, length-drop, ◌&&◌, ◌||◌, ◌==◌, if◌then◌else◌, nat_lt, ⊎_elim, append_assoc, ◌++◌, rules}
+use Rattle.cdl_tokens.proofs.Prelude.{prefix_len, is_ordinary, false≢true, cases_lt, at_drop_more, at_drop_all, drop-drop, get_or-drop, get_or_past, is_escape, goes_on_word, may_begin_word, word_len, len_until, word_value, ◌≡◌, ℕ, ◌+◌, ◌<◌, ◌≤◌, Bool, true, false, List, [], ◌∷◌, length, get_or, drop, sym, ◌∙◌, ap, refl, arith, length-drop, ◌&&◌, ◌||◌, ◌==◌, if◌then◌else◌, nat_lt, ⊎_elim, append_assoc, ◌++◌, rules, common_steps}
 use Rattle.cdl_tokens.proofs.Steps.{drop_one_more}
 
 pub and_false : (a : Bool) → (a && false) ≡ false
@@ -21,8 +21,7 @@ two_on text at = drop-drop 1 (at + 1) text ∙ ap (λ n. drop n text) (let e : a
 pub word_at : (text : List ℕ) (at : ℕ) → at < length text →
     word_len (drop at text) ≡
     (if is_escape (get_or text at 0) (get_or text (at + 1) 0) then 2 + word_len (drop (at + 2) text) else (if goes_on_word (get_or text at 0) then 1 + word_len (drop (at + 1) text) else 0))
-word_at text at h =
-    at_drop_more word_len text at 0 h ∙ word_at_start (get_or text at 0) (drop (at + 1) text) ∙ rw (next_byte text at) (rw (two_on text at) refl)
+word_at text at h = grind (arith, at_drop_more word_len text at 0 h, word_at_start (get_or text at 0) (drop (at + 1) text), get_or-drop (at + 1) text 0 0, drop-drop 1 (at + 1) text)
 
 pub word_past : (text : List ℕ) (at : ℕ) → length text ≤ at → word_len (drop at text) ≡ 0
 unfolding word_len
@@ -46,8 +45,7 @@ is_more text at h = rw (length-drop (at + 1) text) (grind arith)
 pub until_at : (close : ℕ) (text : List ℕ) (at : ℕ) → at < length text →
     len_until close (drop at text) ≡
     (if get_or text at 0 == 0x5c && nat_lt (at + 1) (length text) then 2 + len_until close (drop (at + 2) text) else (if get_or text at 0 == close then 0 else 1 + len_until close (drop (at + 1) text)))
-until_at close text at h =
-    at_drop_more (len_until close) text at 0 h ∙ until_at_start close (get_or text at 0) (drop (at + 1) text) ∙ rw (is_more text at h) (rw (two_on text at) refl)
+until_at close text at h = grind (arith, at_drop_more (len_until close) text at 0 h, until_at_start close (get_or text at 0) (drop (at + 1) text), is_more text at h, drop-drop 1 (at + 1) text)
 
 pub until_past : (close : ℕ) (text : List ℕ) (at : ℕ) → length text ≤ at → len_until close (drop at text) ≡ 0
 unfolding len_until
@@ -78,8 +76,7 @@ value_at_start b rest = grind (arith, and_false)
 pub value_at : (text : List ℕ) (at : ℕ) → at < length text →
     word_value (drop at text) ≡
     (if is_escape (get_or text at 0) (get_or text (at + 1) 0) then get_or text (at + 1) 0 ∷ word_value (drop (at + 2) text) else get_or text at 0 ∷ word_value (drop (at + 1) text))
-value_at text at h =
-    at_drop_more word_value text at 0 h ∙ value_at_start (get_or text at 0) (drop (at + 1) text) ∙ rw (next_byte text at) (rw (two_on text at) refl)
+value_at text at h = grind (arith, at_drop_more word_value text at 0 h, value_at_start (get_or text at 0) (drop (at + 1) text), get_or-drop (at + 1) text 0 0, drop-drop 1 (at + 1) text)
 
 pub value_past : (text : List ℕ) (at : ℕ) → length text ≤ at → word_value (drop at text) ≡ []
 unfolding word_value

@@ -47,6 +47,7 @@ pub fn hex_len(bytes: &[u8]) -> usize
 
 /// Returns the value of `digits` in the base `base`, or `None` if the value takes more than 64 bits. The value of no digits is 0. If a byte
 /// is no digit of the base, the result means nothing. Needs a base from 1 to 16.
+#[tactic(auto, using(crate::proofs::Sizes::past_word))]
 pub fn number_in(base: u64, digits: &[u8]) -> Option<u64>
     requires some { 1 ≤ base }
     requires small { base ≤ 16 }

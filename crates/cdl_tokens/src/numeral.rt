@@ -63,6 +63,7 @@ const SHORT: usize = 19;
 /// optional suffix. `minus` is true if the sign is a minus. Returns `None` if there are no digits, or if what comes after them is no suffix
 /// of the version. A magnitude above 64 bits is `None` in the result.
 #[inline(always)]
+#[tactic(auto, using(crate::proofs::Decimals::all_read, crate::proofs::Decimals::said))]
 fn decimal(version: Version, minus: bool, bytes: &[u8]) -> Option<Numeral>
     ensures { result ≡ option_map held (in_decimal version minus bytes.now) }
 {

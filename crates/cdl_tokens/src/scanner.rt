@@ -73,6 +73,7 @@ impl<'a> Scanner<'a> {
     ///
     /// White space, marks and numbers, which long lists consist of, are read here; [`other_token`](Scanner::other_token) reads the others.
     #[inline(always)]
+    #[tactic(auto, using(crate::proofs::PlainTokens::scan_number, crate::proofs::PlainTokens::digit_number, crate::proofs::PlainTokens::number_flat, crate::proofs::PlainTokens::scan_mark))]
     pub fn token(&mut self) -> Token
         ensures token { left self.old ≡ followed result result.kind (left self.new) }
         ensures text { text_of self.new ≡ text_of self.old }
@@ -97,6 +98,7 @@ impl<'a> Scanner<'a> {
     /// it, if they come next with only white space before each. Otherwise returns `None`, and the scanner stays where it is. No clause says
     /// when: a caller then reads the token in another way.
     #[inline(always)]
+    #[tactic(auto, using(crate::proofs::PlainTokens::scan_number, crate::proofs::PlainTokens::number_flat))]
     pub fn number_and_comma(&mut self) -> Option<ListedNumber>
         ensures tokens { IfSome result (λ l. left self.old ≡ l.number ∷ l.comma ∷ left self.new) }
         ensures listed { IfSome result (λ l. IsListed (text_of self.old) l) }
@@ -239,6 +241,7 @@ impl<'a> Scanner<'a> {
 
     /// Passes the next byte, and returns its token. Needs a comma there: the byte isn't looked at.
     #[inline(always)]
+    #[tactic(auto, using(crate::proofs::PlainTokens::comma_at))]
     fn take_comma(&mut self) -> Token
         requires { slice_index (text_of self.old) (offset_of self.old) ≡ 0x2c }
         ensures token { left self.old ≡ result ∷ left self.new }
@@ -261,6 +264,7 @@ impl<'a> Scanner<'a> {
 
     /// Skips the next byte if it is white space, and returns true if it was.
     #[inline(always)]
+    #[tactic(auto, using(crate::proofs::PlainTokens::blank_at, crate::proofs::Scans::left_of, crate::proofs::PlainTokens::past_blank))]
     fn skip_blank(&mut self) -> bool
         ensures left { left self.new ≡ left self.old }
         ensures text { text_of self.new ≡ text_of self.old }
@@ -299,6 +303,7 @@ impl<'a> Scanner<'a> {
 
     /// Skips the next byte if it is a space, and returns true if it was one.
     #[inline(always)]
+    #[tactic(auto, using(crate::proofs::PlainTokens::blank_at, crate::proofs::Scans::left_of, crate::proofs::PlainTokens::past_blank))]
     fn skip_space(&mut self) -> bool
         ensures left { left self.new ≡ left self.old }
         ensures text { text_of self.new ≡ text_of self.old }
@@ -345,6 +350,7 @@ impl<'a> Scanner<'a> {
     /// Passes the token of this kind and of `len` bytes that begins at the next byte, and returns it. Needs the kind and the length that
     /// [`scan`] would find there, and a token without a line feed: the bytes aren't looked at, and the line stays the same.
     #[inline]
+    #[tactic(auto, using(crate::proofs::PlainTokens::same_line, crate::proofs::PlainTokens::past_token))]
     fn take(&mut self, kind: TokenKind, len: usize) -> Token
         requires here { scan self.old.at_start (drop self.old.at self.old.text.now) ≡ token kind len }
         requires some { 0 < len }
@@ -409,6 +415,7 @@ impl<'a> Scanner<'a> {
 
     /// Skips white space and comments, and reads the next token, of any kind, by [`scan`]. At the end of the text it returns a token of the
     /// kind `End`.
+    #[tactic(auto, using(crate::proofs::Scans::step_token, crate::proofs::Scans::left_of, crate::proofs::Scans::step_gap, crate::proofs::Scans::step_end))]
     fn scanned_token(&mut self) -> Token
         ensures token { left self.old ≡ followed result result.kind (left self.new) }
         ensures text { text_of self.new ≡ text_of self.old }

@@ -21,7 +21,7 @@ pub use Rattle.cdl_statements.specs.code.Views.{lexeme_of, lexeme_with}
 pub use Rattle.cdl_statements.specs.declared.{cutter.Cutter.Cutter, due.Due.Due, fault.CdlKind.CdlKind}
 pub use Rattle.cdl_statements.specs.declared.due.Due.TheVariants.{DataName, Equals, Separator}
 pub use Rattle.cdl_statements.specs.declared.fault.CdlKind.TheVariants.{BadName, BadNumber, DuplicateData, NumberRange, StringTooLong, Syntax, TooManyValues, UnknownVariable, WrongKind}
-pub use Rattle.cdl_tokens.proofs.Strings.{or_zero, stands_run, unescape_past, plain_small}
+pub use Rattle.cdl_tokens.proofs.Strings.{or_zero, stands_run, unescape_past}
 pub use Rattle.cdl_tokens.specs.Bytes.{is_escape, is_hex, is_octal, number_in}
 pub use Rattle.cdl_tokens.specs.Escapes.{up_to_255, escaped_character, inner, number_escape, plain_escape, string_value}
 unfoldable pub use Rattle.cdl_tokens.specs.Escapes.{character, unescape_at, word_value}

@@ -9,18 +9,7 @@ pub digits-preserved : goal.digits-preserved
 digits-preserved c = grind (arith, common_steps, one_digit, one_longer)
 
 pub overflow_mul-value : goal.overflow_mul-value
-overflow_mul-value c =
-    let l = c.digits in
-    let test = c.digits-test.true in
-    let short = short_number l.at l.value (omega (arith, test, c.requires.short)) l.invariant.small in
-    omega (arith, short)
+overflow_mul-value c = grind (arith, short_number c.digits.at c.digits.value)
 
 pub overflow_add-value : goal.overflow_add-value
-overflow_add-value c =
-    let l = c.digits in
-    let bs = c.args.bytes.now in
-    let is : is_digit (slice_index_or bs l.at 0) ≡ true = search rules in
-    let digit : slice_index_or bs l.at 0 ≤ 0x39 = grind (arith, is) in
-    let test = c.digits-test.true in
-    let short = short_number l.at l.value (omega (arith, test, c.requires.short)) l.invariant.small in
-    omega (arith, short, digit)
+overflow_add-value c = grind (arith, short_number c.digits.at c.digits.value)

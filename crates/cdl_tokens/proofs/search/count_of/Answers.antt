@@ -3,4 +3,4 @@ use Rattle.cdl_tokens.proofs.Masks.{counted_more}
 use Rattle.cdl_tokens.proofs.search.count_of.Goals as goal
 
 pub loop-at-preserved : goal.loop-at-preserved
-loop-at-preserved c = grind (arith, counted_more (λ b. b == c.args.byte) c.args.bytes.now c.loop-at.at 64)
+loop-at-preserved c = grind (arith, counted_more)

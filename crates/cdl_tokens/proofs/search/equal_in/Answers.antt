@@ -5,7 +5,4 @@ use Rattle.std.specs.Int.RustNames.{count_ones}
 use Rattle.cdl_tokens.proofs.search.equal_in.Goals as goal
 
 pub returns : goal.returns
-returns c =
-    let v = c.args.vector in
-    let ones = ap count_ones (bitmask_splat w8 (λ a b. a == b) v 64 c.args.byte c.fits-vector.0 (omega arith)) ∙ ones-mask_l (λ b. b == c.args.byte) v in
-    record { value = ones; few = omega (arith, ones, count_by-le-length (λ b. b == c.args.byte) v) }
+returns c = let ones = ap count_ones (bitmask_splat w8 (λ a b. a == b) c.args.vector 64 c.args.byte c.fits-vector.0 (omega arith)) ∙ ones-mask_l (λ b. b == c.args.byte) c.args.vector in grind (arith, ones, count_by-le-length (λ b. b == c.args.byte) c.args.vector)

@@ -4,6 +4,4 @@ use Rattle.cdl_tokens.proofs.Masks.{run_stops}
 use Rattle.cdl_tokens.proofs.search.far_len.Goals as goal
 
 pub returns-then-found-ne0 : goal.returns-then-found-ne0
-returns-then-found-ne0 c =
-    let stop = run_stops (is_stop c.args.stops) c.args.bytes.now 0 16 _ (omega arith) (omega arith) c.stops_in-found.ensures (omega arith) in
-    record { len = stop.0; within = omega (arith, stop.1) }
+returns-then-found-ne0 c = grind (arith, run_stops (is_stop c.args.stops) c.args.bytes.now 0 16)

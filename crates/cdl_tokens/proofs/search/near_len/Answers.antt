@@ -4,9 +4,7 @@ use Rattle.cdl_tokens.proofs.Masks.{run_stops, run_through}
 use Rattle.cdl_tokens.proofs.search.near_len.Goals as goal
 
 pub returns-then-found-ne0 : goal.returns-then-found-ne0
-returns-then-found-ne0 c =
-    let stop = run_stops (is_stop c.args.stops) c.args.bytes.now c.loop-at.at 16 _ (omega arith) (omega arith) c.stops_in-found.ensures (omega arith) in
-    record { len = omega (arith, stop.0, c.loop-at.invariant.rest); within = stop.1 }
+returns-then-found-ne0 c = grind (arith, run_stops (is_stop c.args.stops) c.args.bytes.now c.loop-at.at 16)
 
 pub loop-at-preserved : goal.loop-at-preserved
 loop-at-preserved c = grind (arith, run_through (is_stop c.args.stops) c.args.bytes.now c.loop-at.at 16)

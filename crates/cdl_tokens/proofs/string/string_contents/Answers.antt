@@ -4,10 +4,6 @@ use Rattle.cdl_tokens.proofs.Words.{and_yes}
 use Rattle.cdl_tokens.specs.declared.scan.Character.{Character}
 use Rattle.cdl_tokens.proofs.string.string_contents.Goals as goal
 
-and_assoc : (a b g : Bool) → ((a && b) && g) ≡ (a && (b && g))
-and_assoc true b g = refl
-and_assoc false b g = refl
-
 pub escapes-preserved : goal.escapes-preserved
 escapes-preserved c = search (rules, are_good, contents, past_escape, past_run)
 

@@ -4,7 +4,4 @@ use Rattle.cdl_tokens.proofs.Scans.{line_more}
 use Rattle.cdl_tokens.proofs.scanner.Scanner.after_gap.Goals as goal
 
 pub invariant_of-result-clause-on_line : goal.invariant_of-result-clause-on_line
-invariant_of-result-clause-on_line c =
-    let s = c.args.self in
-    let feeds = (gap_feeds s.at_start (drop s.at s.text.now)).feeds in
-    grind (arith, line_more s.text.now s.at c.args.len, feeds, c.requires.gap, s.on_line, get_or-drop)
+invariant_of-result-clause-on_line c = grind (arith, line_more c.args.self.text.now c.args.self.at c.args.len, gap_feeds c.args.self.at_start (drop c.args.self.at c.args.self.text.now), get_or-drop)
