@@ -1,5 +1,5 @@
 -- Decimal numbers, digit by digit.
-use Rattle.cdl_tokens.proofs.Prelude.{common_steps, prefix_len, take_while, Version, is_digit, number_in, ReadsDigits, held, in_decimal, type_of_suffix, ◌≡◌, ℕ, true, false, ◌+◌, ◌*◌, ◌-◌, ◌<◌, List, [], ◌∷◌, get_or, length, take, drop, refl, sym, ap, ◌∙◌, arith, Bool, Some, ◌==◌, nat_lt, option_map, slice_index, rules}
+use Rattle.cdl_tokens.proofs.Prelude.{common_steps, prefix_len, take_while, Version, is_digit, number_in, ReadsDigits, held, in_decimal, type_of_suffix, ◌≡◌, ℕ, true, false, ◌+◌, ◌*◌, ◌-◌, ◌<◌, List, ◌∷◌, get_or, length, take, drop, refl, ap, ◌∙◌, arith, Bool, Some, ◌==◌, nat_lt, option_map, slice_index}
 use Rattle.nc_base.specs.declared.nc_type.NcType.{NcType}
 use Rattle.cdl_tokens.proofs.Steps.{take_one_more, none_first}
 
@@ -9,9 +9,6 @@ decimals bs = take_while is_digit bs
 
 one_more : (b : ℕ) (bs : List ℕ) → is_digit b ≡ true → (prefix_len is_digit (b ∷ bs) ≡ 1 + prefix_len is_digit bs) × (decimals (b ∷ bs) ≡ b ∷ decimals bs)
 one_more b bs is = let n : prefix_len is_digit (b ∷ bs) ≡ 1 + prefix_len is_digit bs = rw (is) refl in (n, ap (λ k. take k (b ∷ bs)) n ∙ take_one_more b (prefix_len is_digit bs) bs)
-
-there : (bs : List ℕ) (i : ℕ) → i < length bs → drop i bs ≡ get_or bs i 0 ∷ drop (i + 1) bs
-there bs i h = grind (arith, common_steps)
 
 pub one_digit : (bs : List ℕ) (i value : ℕ) → i < length bs → is_digit (get_or bs i 0) ≡ true → ReadsDigits bs i value → ReadsDigits bs (i + 1) (10 * value + (get_or bs i 0 - 0x30))
 one_digit bs i value h is read = grind (arith, common_steps, one_more (get_or bs i 0) (drop (i + 1) bs) is)

@@ -1,5 +1,5 @@
 -- The gaps between tokens: only their first byte can be a line feed.
-use Rattle.cdl_tokens.proofs.Prelude.{prefix_len, Scanned, TokenKind, scan, gap, token, ◌≡◌, ℕ, Bool, true, false, cond, List, [], ◌∷◌, take, get_or, sym, ◌∙◌, refl, arith, ◌==◌, not, None, count_by, eqb-true, if◌then◌else◌, rules}
+use Rattle.cdl_tokens.proofs.Prelude.{prefix_len, Scanned, TokenKind, scan, gap, token, ◌≡◌, ℕ, Bool, true, false, cond, List, [], ◌∷◌, take, get_or, refl, arith, ◌==◌, not, None, count_by, if◌then◌else◌, rules}
 use Rattle.cdl_tokens.specs.Scan.{begins_comment}
 use Rattle.cdl_tokens.proofs.PlainTokens.{run_flat}
 

@@ -1,5 +1,5 @@
 -- From the mask of a block of bytes to the run of bytes at which no lane stops.
-use Rattle.std.proofs.Common.{◌≡◌, ℕ, suc, ◌+◌, ◌*◌, ◌/◌, ◌%◌, ◌^◌, ◌<◌, ◌≤◌, Bool, true, not, ◌||◌, cond, eqb, List, [], ◌∷◌, map, rules, length, ◌++◌, take, drop, get_or, replicate, bit_and, count_by, refl, ap, ap₂, ◌∙◌, arith, w8, Fits, sym}
+use Rattle.std.proofs.Common.{◌≡◌, ℕ, suc, ◌+◌, ◌%◌, ◌^◌, ◌<◌, ◌≤◌, Bool, true, not, ◌||◌, cond, eqb, List, [], ◌∷◌, map, rules, length, ◌++◌, take, drop, get_or, replicate, bit_and, count_by, refl, ap, ap₂, ◌∙◌, arith, w8, Fits, sym}
 use Rattle.std.proofs.lemmas.Simd.{zip2_of_maps, zip2_splat, mask_l-mod, chunk-drop, length-chunk, first_set_mask_l, Each1-all, Each1-zip2, Each2-splat, length-zip2, SwzOk, SwzOk-from_below, swz_l, get_or-swz_l_below}
 use Rattle.std.proofs.lemmas.Bool.{agree_below, agree_below_at}
 use Rattle.std.proofs.lemmas.Nat.{and_le_r}
@@ -9,7 +9,6 @@ use Rattle.std.proofs.lemmas.Bool.Decides.{nat_tests}
 use Rattle.std.specs.List.{prefix_len}
 use lib.Lanes.{chunk, mask_l, top, zip2, Each1}
 use lib.Bits.{bit_or}
-use Rattle.cdl_tokens.proofs.Scans.{take_more}
 use lib.Count.{count_trailing_zeros}
 use Rattle.std.proofs.Math.Seq.{take-add}
 
@@ -49,10 +48,6 @@ low_ok v long =
 looked_up : (t v : List ℕ) (i : ℕ) → i + length v ≤ 16 → swz_l w8 16 t i (map low v) ≡ map (λ x. get_or t (low x) 0) v
 looked_up t [] i few = refl
 looked_up t (x ∷ xs) i few = search (rules, get_or-swz_l_below, low_below, looked_up t xs (suc i) (omega arith))
-
-itself : (v : List ℕ) → v ≡ map (λ x. x) v
-itself [] = refl
-itself (x ∷ xs) = ap (λ l. x ∷ l) (itself xs)
 
 pub listed : (t v : List ℕ) (p : ℕ → Bool) → length v ≡ 16 → Each1 (Fits w8) v → agree_below (λ x. top 7 (hit (get_or t (low x) 0) x)) p 256 ≡ true
     → mask_l (map (top 7) (zip2 hit (swz_l w8 16 t 0 (zip2 bit_and v (replicate 16 15))) v)) % 2 ^ 64 ≡ mask_l (map p v)

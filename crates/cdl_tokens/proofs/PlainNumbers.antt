@@ -1,5 +1,5 @@
 -- What plain numbers say.
-use Rattle.cdl_tokens.proofs.Prelude.{prefix_len, prefix_len-le-length, get_or-drop, length-drop, Int, NcType, Version, goes_on_number, is_digit, is_octal, is_sign, number_in, held, parts, with_sign, Begins, BeginsDecimal, BeginsUnsigned, IsLetterOf, IsSuffix, begins_number, ends_value, ◌≡◌, ℕ, zero, suc, ◌+◌, ◌<◌, ◌≤◌, Bool, true, false, List, [], ◌∷◌, length, take, drop, refl, sym, ap, ◌∙◌, arith, Some, ◌==◌, nat_lt, option_map, slice_index, rules, subst, common_steps}
+use Rattle.cdl_tokens.proofs.Prelude.{prefix_len, prefix_len-le-length, get_or-drop, length-drop, Int, NcType, Version, goes_on_number, is_digit, is_octal, is_sign, number_in, held, parts, with_sign, Begins, BeginsDecimal, BeginsUnsigned, IsLetterOf, IsSuffix, begins_number, ends_value, ◌≡◌, ℕ, zero, suc, ◌+◌, ◌<◌, ◌≤◌, Bool, true, false, List, [], ◌∷◌, length, take, drop, refl, sym, ap, ◌∙◌, arith, Some, ◌==◌, option_map, slice_index, rules, subst}
 use Rattle.cdl_tokens.specs.declared.numeral.Numeral.{Numeral}
 use Rattle.cdl_tokens.specs.declared.plain_number.PlainMagnitude.{PlainMagnitude}
 use Rattle.std.proofs.lemmas.List.{take-take, drop-take}
@@ -53,10 +53,6 @@ taken : (bs : List ℕ) (n k value : ℕ) → AreDigits bs n value → n ≤ k �
 taken bs n k value d h = search (rules, prefix_len-le-length, take-take, said, first_taken, taken_digits)
 
 -- a zero and a suffix
-no_octal : (bs : List ℕ) → is_digit (slice_index bs 0) ≡ false → prefix_len is_octal bs ≡ 0
-no_octal [] h = refl
-no_octal (b ∷ bs) h = rw (let off : is_octal b ≡ false = grind (arith, h) in off) refl
-
 zero_said : (v : Version) (minus : Bool) (bs : List ℕ) (ty : NcType) → IsSuffix bs ty → Some (record { minus = minus; magnitude = Some 0; ty = ty }) ≡ option_map held (with_sign v minus (0x30 ∷ bs))
 zero_said v minus bs ty h = let off : is_octal (slice_index bs 0) ≡ false = grind (arith, h.no_digit) in rw (h.no_x) (rw (none_first is_octal bs off) (rw (h.says v) refl))
 

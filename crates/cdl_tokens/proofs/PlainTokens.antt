@@ -1,5 +1,5 @@
 -- Marks and numbers at the start of bytes: they are no other token, and have no line feed.
-use Rattle.cdl_tokens.proofs.Prelude.{prefix_len, Number, Mark, may_begin_word, goes_on_number, is_mark_byte, is_blank, is_digit, is_sign, scan, token, gap, begins_number, begins_opening, ends_value, get_or-drop, sum_by-append, false≢true, TokenKind, is_token, followed, tokens_at, line_at, ◌≡◌, ℕ, zero, suc, ◌+◌, ◌<◌, ◌≤◌, Bool, true, false, cond, List, [], ◌∷◌, length, get_or, drop, take, sym, ◌∙◌, ap, refl, arith, subst, ◌==◌, ◌||◌, count_by, Some, length-drop, rules, common_steps}
+use Rattle.cdl_tokens.proofs.Prelude.{prefix_len, Number, Mark, may_begin_word, goes_on_number, is_mark_byte, is_blank, is_digit, is_sign, scan, token, gap, begins_number, begins_opening, ends_value, get_or-drop, sum_by-append, false≢true, TokenKind, is_token, followed, tokens_at, line_at, ◌≡◌, ℕ, zero, suc, ◌+◌, ◌<◌, ◌≤◌, Bool, true, false, cond, List, [], ◌∷◌, length, get_or, drop, take, sym, ◌∙◌, ap, refl, arith, subst, ◌==◌, ◌||◌, count_by, Some, length-drop, rules}
 use Rattle.cdl_tokens.proofs.Scans.{step_gap, step_token, line_more}
 use Rattle.cdl_tokens.proofs.Steps.{take_one_more}
 use Rattle.cdl_tokens.proofs.Words.{and_false}
@@ -82,9 +82,6 @@ number_flat bs h = grind (arith, false≢true, number_low, feeds_on, digits_flat
 -- at a place of a text
 pub blank_at : (text : List ℕ) (at_start : Bool) (at : ℕ) → is_blank (get_or text at 0) ≡ true → scan at_start (drop at text) ≡ gap 1
 blank_at text at_start at h = grind (arith, get_or-drop at text 0 0, scan_blank at_start (drop at text))
-
-pub here_dropped : (text : List ℕ) (at : ℕ) → get_or (drop at text) 0 0 ≡ get_or text at 0
-here_dropped text at = get_or-drop at text 0 0 ∙ ap (λ n. get_or text n 0) (let e : at + 0 ≡ at = omega arith in e)
 
 -- a comma stands inside of the text
 pub inside_at : (text : List ℕ) (at : ℕ) → get_or text at 0 ≡ 0x2c → at < length text

@@ -1,5 +1,5 @@
 -- A scanner, one gap or token on.
-use Rattle.cdl_tokens.proofs.Prelude.{sum_by-append, Scanned, Token, TokenKind, End, scan, is_end, is_token, left, followed, tokens_at, line_at, ◌≡◌, ℕ, zero, suc, ◌+◌, ◌<◌, ◌≤◌, Bool, true, false, cond, List, [], ◌∷◌, ◌++◌, length, drop, take, sym, ◌∙◌, ap, refl, arith, ◌==◌, None, Some, count_by}
+use Rattle.cdl_tokens.proofs.Prelude.{sum_by-append, Scanned, Token, TokenKind, End, scan, is_end, is_token, left, followed, tokens_at, line_at, ◌≡◌, ℕ, ◌+◌, ◌<◌, ◌≤◌, Bool, true, false, cond, List, [], ◌∷◌, length, drop, take, ◌∙◌, ap, refl, arith, ◌==◌, None, Some, count_by}
 use Rattle.cdl_tokens.specs.declared.scanner.Scanner.{Scanner}
 use Rattle.cdl_tokens.proofs.Steps.{tokens_more, tokens_past}
 use Rattle.cdl_tokens.proofs.Words.{and_false, and_yes}
@@ -27,14 +27,6 @@ left_of s text at_start at t f a =
 
 pub step_end : (text : List ℕ) (at_start : Bool) (at line : ℕ) → length text ≤ at → line ≡ line_at text at → tokens_at text at_start at 0 (drop at text) ≡ record { kind = End; line = line; first = at; past = at } ∷ []
 step_end text at_start at line h on = grind (arith, tokens_past text at_start at h)
-
-take_none : (n : ℕ) → take {A = ℕ} n [] ≡ []
-take_none n = grind arith
-
-pub take_more : (text : List ℕ) (at n : ℕ) → take (at + n) text ≡ take at text ++ take n (drop at text)
-take_more text zero n = ap (λ m. take m text) (let e : 0 + n ≡ n = omega arith in e)
-take_more [] (suc at) n = ap (λ m. take m []) (let e : suc at + n ≡ suc (at + n) = omega arith in e) ∙ sym (take_none n)
-take_more (b ∷ text) (suc at) n = ap (λ m. take m (b ∷ text)) (let e : suc at + n ≡ suc (at + n) = omega arith in e) ∙ ap (λ xs. b ∷ xs) (take_more text at n)
 
 pub line_more : (text : List ℕ) (at n : ℕ) → line_at text (at + n) ≡ line_at text at + count_by (λ b. b == 0x0a) (take n (drop at text))
 line_more text at n = rw (take-add at n text) (rw (sum_by-append (λ b. cond (b == 0x0a) 1 0) (take at text) (take n (drop at text))) (omega arith))

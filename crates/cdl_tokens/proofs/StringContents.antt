@@ -1,10 +1,10 @@
 -- What a string has between its quotes, one escape on.
-use Rattle.cdl_tokens.proofs.Prelude.{list_all, prefix_len, take_while, character, unescape, unescape_at, is_octal, is_hex, is_ordinary, len_until, number_escape, plain_escape, ◌≡◌, ℕ, zero, suc, ◌+◌, ◌<◌, Bool, true, false, cond, List, [], ◌∷◌, length, take, drop, min, refl, sym, ap, ◌∙◌, subst, arith, ◌==◌, ◌&&◌, Some, is_some, slice_index, if◌then◌else◌, rules, common_steps, eqb-true}
+use Rattle.cdl_tokens.proofs.Prelude.{list_all, prefix_len, take_while, character, unescape, unescape_at, is_octal, is_hex, is_ordinary, len_until, number_escape, plain_escape, ◌≡◌, ℕ, zero, suc, ◌+◌, ◌<◌, Bool, true, false, List, [], ◌∷◌, length, take, drop, min, refl, ap, ◌∙◌, arith, ◌==◌, ◌&&◌, Some, is_some, slice_index, if◌then◌else◌}
 use Rattle.cdl_tokens.specs.declared.scan.Character.{Character}
 use Rattle.std.proofs.lemmas.List.Sums.{take_while-cons}
 use Rattle.cdl_tokens.proofs.Steps.{drop_one_more, take_one_more}
 use Rattle.cdl_tokens.proofs.Strings.{unescape_at_start, unescape_unescaped}
-use Rattle.cdl_tokens.proofs.Words.{until_at_start, until_run, until_at}
+use Rattle.cdl_tokens.proofs.Words.{until_at_start, until_run}
 use Rattle.std.proofs.lemmas.List.{drop_min}
 
 -- the bytes before the closing quote
@@ -76,15 +76,6 @@ not_escaping b h = grind (arith, h)
 
 same_character : (c : ℕ) (xs : List ℕ) → character (0x5c ∷ c ∷ contents xs) ≡ character (0x5c ∷ c ∷ xs)
 same_character c xs = grind (arith, escape_is c, digits_inside is_octal 2 xs octal_ordinary, digits_inside is_hex 2 xs hex_ordinary)
-
-octal_len : (c : ℕ) (octal hex : List ℕ) → is_octal c ≡ true → (escape_of c octal hex).len ≡ 2 + length octal
-octal_len c octal hex on = rw (on) (omega arith)
-
-hex_len : (c : ℕ) (octal hex : List ℕ) → is_octal c ≡ false → (c == 0x78) ≡ true → (escape_of c octal hex).len ≡ 2 + length hex
-hex_len c octal hex off on = rw (off) (rw (on) refl)
-
-other_len : (c : ℕ) (octal hex : List ℕ) → is_octal c ≡ false → (c == 0x78) ≡ false → (escape_of c octal hex).len ≡ 2 + 0
-other_len c octal hex off other = rw (off) (rw (other) refl)
 
 two_past : (n k a c : ℕ) (xs : List ℕ) → n ≡ 2 + k → drop n (a ∷ c ∷ xs) ≡ drop k xs
 two_past n k a c xs is = ap (λ m. drop m (a ∷ c ∷ xs)) (let e : n ≡ suc (suc k) = omega (arith, is) in e)

@@ -1,5 +1,5 @@
 -- A string, one character on.
-use Rattle.cdl_tokens.proofs.Prelude.{list_all, prefix_len, prefix_len-le-length, plain_escape, append-nil, at_drop_all, length-take-le, take-append-drop, take-take, take_all, unescape, unescape_at, character, string_value, is_unescaped, ◌≡◌, ℕ, zero, suc, ◌+◌, ◌-◌, ◌<◌, ◌≤◌, true, false, List, [], ◌∷◌, ◌++◌, length, take, drop, sym, ◌∙◌, ap, refl, arith, ◌==◌, map, Option, Some, is_some, unwrap_or, min, set, append_assoc, common_steps, rules}
+use Rattle.cdl_tokens.proofs.Prelude.{list_all, prefix_len, prefix_len-le-length, append-nil, at_drop_all, length-take-le, take-append-drop, take-take, take_all, unescape, unescape_at, character, string_value, is_unescaped, ◌≡◌, ℕ, zero, suc, ◌+◌, ◌-◌, ◌<◌, ◌≤◌, true, false, List, [], ◌∷◌, ◌++◌, length, take, drop, sym, ◌∙◌, ap, refl, arith, ◌==◌, map, Option, Some, is_some, unwrap_or, min, set, append_assoc}
 use Rattle.std.proofs.Math.Seq.{take-append-add}
 use Rattle.std.proofs.lemmas.List.{drop_min, length-take, take_more_set}
 use Rattle.std.proofs.lemmas.List.Folds.{prefix_len-append}

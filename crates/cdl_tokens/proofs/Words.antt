@@ -1,5 +1,5 @@
 -- A word and a quoted text, one byte or escape on.
-use Rattle.cdl_tokens.proofs.Prelude.{prefix_len, is_ordinary, false≢true, cases_lt, at_drop_more, at_drop_all, drop-drop, get_or-drop, get_or_past, is_escape, goes_on_word, may_begin_word, word_len, len_until, word_value, ◌≡◌, ℕ, ◌+◌, ◌<◌, ◌≤◌, Bool, true, false, List, [], ◌∷◌, length, get_or, drop, sym, ◌∙◌, ap, refl, arith, length-drop, ◌&&◌, ◌||◌, ◌==◌, if◌then◌else◌, nat_lt, ⊎_elim, append_assoc, ◌++◌, rules, common_steps}
+use Rattle.cdl_tokens.proofs.Prelude.{prefix_len, is_ordinary, false≢true, cases_lt, at_drop_more, at_drop_all, drop-drop, get_or-drop, get_or_past, is_escape, goes_on_word, may_begin_word, word_len, len_until, word_value, ◌≡◌, ℕ, ◌+◌, ◌<◌, ◌≤◌, Bool, true, false, List, [], ◌∷◌, length, get_or, drop, sym, ◌∙◌, ap, refl, arith, length-drop, ◌&&◌, ◌||◌, ◌==◌, if◌then◌else◌, nat_lt, ⊎_elim, append_assoc, ◌++◌, rules}
 use Rattle.cdl_tokens.proofs.Steps.{drop_one_more}
 
 pub and_false : (a : Bool) → (a && false) ≡ false
@@ -10,12 +10,6 @@ pub word_at_start : (b : ℕ) (rest : List ℕ) →
     word_len (b ∷ rest) ≡ (if is_escape b (get_or rest 0 0) then 2 + word_len (drop 1 rest) else (if goes_on_word b then 1 + word_len rest else 0))
 unfolding word_len
 word_at_start b rest = grind (arith, and_false)
-
-next_byte : (text : List ℕ) (at : ℕ) → get_or (drop (at + 1) text) 0 0 ≡ get_or text (at + 1) 0
-next_byte text at = get_or-drop (at + 1) text 0 0 ∙ ap (λ n. get_or text n 0) (let e : at + 1 + 0 ≡ at + 1 = omega arith in e)
-
-two_on : (text : List ℕ) (at : ℕ) → drop 1 (drop (at + 1) text) ≡ drop (at + 2) text
-two_on text at = drop-drop 1 (at + 1) text ∙ ap (λ n. drop n text) (let e : at + 1 + 1 ≡ at + 2 = omega arith in e)
 
 -- at a state of the text
 pub word_at : (text : List ℕ) (at : ℕ) → at < length text →

@@ -1,6 +1,5 @@
 use Rattle.cdl_tokens.proofs.Prelude.{common_steps}
-use Rattle.std.proofs.Common.{arith, rules, ◌≡◌, ◌<◌, ◌≤◌, length, true, slice_index_or}
-use Rattle.cdl_tokens.specs.Bytes.{is_digit}
+use Rattle.std.proofs.Common.{arith}
 use Rattle.cdl_tokens.proofs.Decimals.{one_digit}
 use Rattle.cdl_tokens.proofs.Sizes.{one_longer, short_number}
 use Rattle.cdl_tokens.proofs.numeral.digits_up_to.Goals as goal

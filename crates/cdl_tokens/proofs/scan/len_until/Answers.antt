@@ -1,4 +1,4 @@
-use Rattle.cdl_tokens.proofs.Prelude.{ne_eqb, prefix_len, len_until, is_ordinary, arith, ◌≡◌, ◌+◌, ap, ◌∙◌, drop, common_steps}
+use Rattle.cdl_tokens.proofs.Prelude.{ne_eqb, arith, common_steps}
 use Rattle.cdl_tokens.proofs.Words.{until_byte, until_run}
 use Rattle.cdl_tokens.proofs.scan.len_until.Goals as goal
 

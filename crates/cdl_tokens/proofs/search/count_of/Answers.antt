@@ -1,4 +1,4 @@
-use Rattle.std.proofs.Common.{◌==◌, arith}
+use Rattle.std.proofs.Common.{arith}
 use Rattle.cdl_tokens.proofs.Masks.{counted_more}
 use Rattle.cdl_tokens.proofs.search.count_of.Goals as goal
 

@@ -1,7 +1,6 @@
-use Rattle.cdl_tokens.proofs.Prelude.{ne_eqb, len_until, ◌≡◌, ◌+◌, ◌&&◌, Bool, take, sym, ap, ◌∙◌, arith, refl, ◌==◌, false, true, is_some, rules}
+use Rattle.cdl_tokens.proofs.Prelude.{ne_eqb, rules}
 use Rattle.cdl_tokens.proofs.StringContents.{are_good, contents, ends, none_good, past_escape, past_run}
 use Rattle.cdl_tokens.proofs.Words.{and_yes}
-use Rattle.cdl_tokens.specs.declared.scan.Character.{Character}
 use Rattle.cdl_tokens.proofs.string.string_contents.Goals as goal
 
 pub escapes-preserved : goal.escapes-preserved

@@ -1,6 +1,4 @@
 use Rattle.cdl_tokens.proofs.Prelude.{arith}
-use Rattle.std.proofs.Common.{◌+◌, take, sym, ap, ◌∙◌, count_by, ◌==◌}
-use Rattle.cdl_tokens.specs.Tokens.{line_at}
 use Rattle.cdl_tokens.proofs.Scans.{line_more}
 use Rattle.cdl_tokens.proofs.scanner.Scanner.after_token.Goals as goal
 
