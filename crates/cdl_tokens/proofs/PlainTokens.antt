@@ -83,12 +83,6 @@ number_flat bs h = grind (arith, false≢true, number_low, feeds_on, digits_flat
 pub blank_at : (text : List ℕ) (at_start : Bool) (at : ℕ) → is_blank (get_or text at 0) ≡ true → scan at_start (drop at text) ≡ gap 1
 blank_at text at_start at h = grind (arith, get_or-drop at text 0 0, scan_blank at_start (drop at text))
 
--- a comma stands inside of the text
-pub inside_at : (text : List ℕ) (at : ℕ) → get_or text at 0 ≡ 0x2c → at < length text
-inside_at [] at h = cc
-inside_at (b ∷ bs) zero h = omega arith
-inside_at (b ∷ bs) (suc at) h = let e = inside_at bs at h in omega (arith, e)
-
 pub comma_at : (text : List ℕ) (at_start : Bool) (at : ℕ) → get_or text at 0 ≡ 0x2c → scan at_start (drop at text) ≡ token Mark 1
 comma_at text at_start at h = grind (arith, get_or-drop at text 0 0, scan_mark at_start (drop at text))
 

@@ -8,9 +8,6 @@ use Rattle.std.proofs.Math.Seq.{take-add}
 pub followed_token : (t : Token) (kind : TokenKind) (rest : List Token) → is_token (Some kind) ≡ true → followed t kind rest ≡ t ∷ rest
 followed_token t kind rest h = grind arith
 
-pub no_end : (kind : TokenKind) → is_end kind ≡ false → is_token (Some kind) ≡ true
-no_end kind h = grind arith
-
 pub step_token : (text : List ℕ) (at_start : Bool) (at line : ℕ) (f : Scanned) (kind : TokenKind) → at < length text → f ≡ scan at_start (drop at text) → 0 < f.len → f.len ≤ length (drop at text) → is_token f.kind ≡ true → f.kind ≡ Some kind → line ≡ line_at text at →
     tokens_at text at_start at 0 (drop at text) ≡ followed (record { kind = kind; line = line; first = at; past = at + f.len }) kind (tokens_at text false (at + f.len) 0 (drop (at + f.len) text))
 step_token text at_start at line f kind h is some within token one on =

@@ -15,10 +15,6 @@ past n m h k = grind (arith, h, k)
 pub past_limit : (base value b : ℕ) (bs : List ℕ) → 1 ≤ base → word (base * value + digit_value b) ≡ None → word (number_in base value (b ∷ bs)) ≡ None
 past_limit base value b bs h k = past (base * value + digit_value b) (number_in base (base * value + digit_value b) bs) (above (base * value + digit_value b) base bs h) k
 
-pub one_digit : (base value : ℕ) (digits : List ℕ) (i : ℕ) → i < length digits →
-    number_in base value (drop i digits) ≡ number_in base (base * value + digit_value (get_or digits i 0)) (drop (i + 1) digits)
-one_digit base value digits i k = at_drop_more (λ bs. number_in base value bs) digits i 0 k
-
 pub past_word : (base value : ℕ) (digits : List ℕ) (i : ℕ) → 1 ≤ base → i < length digits → word (base * value + digit_value (get_or digits i 0)) ≡ None → word (number_in base value (drop i digits)) ≡ None
 past_word base value digits i h k none = ap word (at_drop_more (λ bs. number_in base value bs) digits i 0 k) ∙ past_limit base value (get_or digits i 0) (drop (i + 1) digits) h none
 
