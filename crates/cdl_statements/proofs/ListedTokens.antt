@@ -5,9 +5,6 @@ use Rattle.cdl_tokens.specs.declared.token.TokenKind.TheVariants as kinds
 use Rattle.cdl_statements.proofs.Cuts.{after_on, words_on}
 
 -- a comma
-pub comma_on : (text : List ℕ) (c : Token) → is_mark 0x2c (lexeme text c) ≡ true → (c.kind ≡ kinds.Mark) × (role_in text c ≡ Other)
-comma_on text c h = search rules
-
 pub is_comma : (text : List ℕ) (c : Token) → c.kind ≡ kinds.Mark → slice_index (raw text c) 0 ≡ 0x2c → is_mark 0x2c (lexeme text c) ≡ true
 is_comma text c mark byte = rw (mark) (rw (byte) refl)
 

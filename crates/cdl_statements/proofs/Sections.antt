@@ -1,5 +1,5 @@
 -- Statements: the table of due tokens says whether a piece has its shape, and what it says stands in its tokens.
-use Rattle.cdl_statements.proofs.Prelude.{◌≡◌, ℕ, Bool, true, false, List, [], ◌∷◌, drop, refl, ap, ◌∙◌, Option, None, Some, if◌then◌else◌, is_some, arith, rules, option_map, option_and_then, is_reserved, Version, values, next_if, next, completes, is_name, is_after, opens_section_after, word_value, Lexeme, is_mark, is_word_kind, is_opening_kind, is_end_kind, name_of, Value, Statement, Attribute, Listed, Close, DeclareDimensions, DeclareVariables, Enter, End, Open, first_bad, constants, dimensions, assigned, section_mark, attribute_or_mark, other_statement, shape, at_end, both, if_so, is_later, section_of, dimensions_said, attribute_said, mark_said, variable_said, statement_said, Due, Section, Unopened, Globals, Dimensions, Variables, Values, Ended, Closed}
+use Rattle.cdl_statements.proofs.Prelude.{◌≡◌, ℕ, Bool, true, false, List, [], ◌∷◌, drop, refl, ap, ◌∙◌, Option, None, Some, if◌then◌else◌, is_some, arith, rules, option_map, is_reserved, Version, values, next_if, next, completes, is_name, is_after, opens_section_after, word_value, Lexeme, is_mark, is_word_kind, is_opening_kind, is_end_kind, name_of, Value, Statement, Attribute, Listed, Close, DeclareDimensions, DeclareVariables, Enter, End, Open, first_bad, constants, dimensions, assigned, section_mark, attribute_or_mark, other_statement, shape, at_end, both, if_so, is_later, section_of, dimensions_said, attribute_said, mark_said, variable_said, statement_said, Due, Section, Unopened, Globals, Dimensions, Variables, Values, Ended, Closed}
 use Rattle.cdl_statements.specs.declared.due.Due.TheVariants as dues
 use Rattle.cdl_statements.proofs.Dues.{fine_on, never_completes, name_is, due_for, never_due, end_due, map_due, only_due, both_ways}
 use Rattle.cdl_statements.proofs.Listing.{constants_due}
@@ -23,11 +23,6 @@ unfolding completes next
 attribute_due v owner ls good = grind (arith, assigned_due)
 
 -- ---- section marks
-
-mark_of : (before : Section) (c : Lexeme) (o : Option Section) →
-    if_so (is_mark 0x3a c) (option_and_then (λ s. if_so (is_later before s) (Some (Enter s))) o) ≡ due_for (next_if (is_after before o) dues.Colon) (c ∷ []) (mark_said o)
-unfolding completes next
-mark_of before c o = grind arith
 
 mark_due : (before : Section) (l : Lexeme) (ls : List Lexeme) → section_mark before l ls ≡ due_for (next_if (opens_section_after before l) dues.Colon) ls (mark_said (section_of l))
 unfolding completes next

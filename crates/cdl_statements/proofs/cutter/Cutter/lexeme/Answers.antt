@@ -1,5 +1,4 @@
-use Rattle.cdl_statements.proofs.Prelude.{◌≡◌, ◌∷◌, [], List, drop, map, sym, ap, ◌∙◌, if◌then◌else◌, Token, left, followed, Lexeme, lexeme, words, first_piece, pieces_left, role_in, pieces_after, rules}
-use Rattle.cdl_tokens.specs.code.Scanners as scanners
+use Rattle.cdl_statements.proofs.Prelude.{words, pieces_left, rules}
 use Rattle.cdl_statements.proofs.Cuts.{begins}
 use Rattle.cdl_statements.proofs.cutter.Cutter.lexeme.Goals as goal
 
