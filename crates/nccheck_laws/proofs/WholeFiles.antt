@@ -1,14 +1,14 @@
 -- No finding has a kind that stops a dump exactly if the file holds a dataset, and exactly if the dump of all values is whole.
-use Rattle.nccheck_laws.proofs.Prelude.{Var, Bytes, SpellsHeader, strict, spelled-layout, Header, Fact, Finding, Report, IsReport, HasNoFault, is_fault, is_missing, list_any, list_any_none, All-cons, All-head, All-nil, All-tail, IsSoundSlot, file_of, first_missing, concat, Dataset, HoldsDataset, bare, stored_bytes, file-holds, FindsWholeFile, ShowsAllValues, WholeFilesHoldDatasets, WholeReportsAreDumped, GeneratedFilesAreFoundWhole, ◌≡◌, Bool, true, false, not, List, [], ◌∷◌, length, map, None, refl, sym, ap, arith, subst, ◌∙◌, All}
+use Rattle.nccheck_laws.proofs.Prelude.{Var, Bytes, SpellsHeader, strict, spelled-layout, Header, Fact, Finding, Report, IsReport, HasNoFault, is_fault, is_missing, list_any, list_any_none, All-cons, All-head, All-nil, All-tail, IsSoundSlot, file_of, first_missing, concat, Dataset, HoldsDataset, bare, stored_bytes, file-holds, FindsWholeFile, ShowsAllValues, WholeFilesHoldDatasets, WholeReportsAreDumped, GeneratedFilesAreFoundWhole, ◌≡◌, Bool, true, false, not, List, [], ◌∷◌, length, map, None, refl, sym, ap, arith, subst, ◌∙◌, All, if◌then◌else◌}
 use Rattle.nc_base.specs.Dump.{Options, Ending, whole, IsDump, stopped, unknown, shown}
 use Rattle.nc_base.specs.Sizes.{record_count}
 use Rattle.nc_report.specs.Kinds.{kind_of}
 use Rattle.nccheck_laws.specs.FaultLaws.{finds_missing}
-use Rattle.nccheck_laws.specs.ReportLaws.{stops_dump}
+use Rattle.nccheck_laws.specs.ReportLaws.{MissingValuesStopDumps, is_truncated, stops_dump}
 use Rattle.nccheck_laws.proofs.FirstFaults.{faultless}
 use Rattle.nccheck_laws.proofs.LayoutFacts.{missing-told, read-header}
 use Rattle.nccheck_laws.proofs.MissingValues.{none-lack, all-have, unmapped}
-use Rattle.nccheck_laws.proofs.TruncatedDumps.{dump-ends, is_whole}
+use Rattle.nccheck_laws.proofs.TruncatedDumps.{TellsEndings, dump-ends, is_whole}
 
 -- ---- what stops a dump: a fault, and missing values
 
@@ -79,15 +79,31 @@ dump-header bytes o text ending (stopped fault end stops) is = absurd cc
 dump-header bytes o text ending (unknown h rest index spelled u) is = absurd cc
 dump-header bytes o text ending (shown h rest n section spelled knows count same) is = (h, rest, spelled)
 
--- it is whole exactly if no values are found to be missing
-dump-tells : (bytes : Bytes) (r : Report) (h : Header) (rest : Bytes) (o : Options) (text : Bytes) (ending : Ending) → IsReport bytes r
-    → SpellsHeader bytes h rest → ShowsAllValues o → IsDump bytes o text ending → is_whole ending ≡ not (finds_missing r)
-dump-tells bytes r h rest o text ending report spelled all is =
+-- it is whole if no values are found to be missing, and otherwise ends at one
+ends-told : (says : Ending → Bool) → TellsEndings says → (bytes : Bytes) (r : Report) (h : Header) (rest : Bytes) (o : Options) (text : Bytes) (ending : Ending)
+    → IsReport bytes r → SpellsHeader bytes h rest → ShowsAllValues o → IsDump bytes o text ending
+    → says ending ≡ (if finds_missing r then not (says whole) else says whole)
+ends-told says tells bytes r h rest o text ending report spelled all is =
     let ends = (read-header bytes r h rest report spelled).1 in
     let sound = spelled-layout strict bytes h rest r.listing.end spelled ends in
     let slabs = unmapped IsSoundSlot h.dims h.vars sound.sound_slots in
-    dump-ends h bytes rest o text ending spelled (λ k d lt. (slabs k d lt).some_bytes) all is
-    ∙ ap not (sym (missing-told bytes r h rest report spelled))
+    dump-ends says tells h bytes rest o text ending spelled (λ k d lt. (slabs k d lt).some_bytes) all is
+    ∙ ap (λ any. if any then not (says whole) else says whole) (sym (missing-told bytes r h rest report spelled))
+
+pub missing-stops : MissingValuesStopDumps
+missing-stops bytes r h rest o text ending report spelled all is =
+    sym (ends-told is_truncated (λ v k. refl) bytes r h rest o text ending report spelled all is ∙ is-test (finds_missing r))
+  where
+    is-test : (b : Bool) → (if b then true else false) ≡ b
+    is-test b = grind arith
+
+dump-tells : (bytes : Bytes) (r : Report) (h : Header) (rest : Bytes) (o : Options) (text : Bytes) (ending : Ending) → IsReport bytes r
+    → SpellsHeader bytes h rest → ShowsAllValues o → IsDump bytes o text ending → is_whole ending ≡ not (finds_missing r)
+dump-tells bytes r h rest o text ending report spelled all is =
+    ends-told is_whole (λ v k. refl) bytes r h rest o text ending report spelled all is ∙ is-not (finds_missing r)
+  where
+    is-not : (b : Bool) → (if b then false else true) ≡ not b
+    is-not b = grind arith
 
 whole-is : (ending : Ending) → is_whole ending ≡ true → ending ≡ whole
 whole-is ending is = grind arith

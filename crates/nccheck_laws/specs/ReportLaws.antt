@@ -9,7 +9,7 @@ use Rattle.nc_base.specs.declared.{dataset.Dataset.Dataset, header.Header.Header
 use Rattle.nc_base.specs.declared.header.NumRecs.TheVariants.{Known}
 use Rattle.nc_base.specs.Bytes.{Bytes, AreBytes}
 use Rattle.nc_base.specs.Datasets.{HoldsDataset, Fits}
-use Rattle.nc_base.specs.Dump.{Options, Ending, whole, IsDump}
+use Rattle.nc_base.specs.Dump.{Options, Ending, whole, data_truncated, IsDump}
 use Rattle.nc_base.specs.GeneratedFile.{file_of, with_begins}
 use Rattle.nc_base.specs.Grammar.{SpellsHeader, header_spelling}
 use Rattle.nc_base.specs.Headers.{AreArrays, IsGood, bare}
@@ -20,7 +20,7 @@ use Rattle.nc_report.specs.declared.finding.Fact.TheVariants as fact
 use Rattle.nc_report.specs.declared.kind.Kind.TheVariants.{NotNetcdf, Hdf5, Gzip, EmptyFile, UnknownVersion, HeaderTruncated, BadTag, BadCount, BadName, NameCharacters, FloatingType, BadType, BadShape, TwoRecordDims, TooLarge, BadOffset, LargeCount, Missing}
 use Rattle.nc_report.specs.Kinds.{kind_of}
 use Rattle.nc_report.specs.Reports.{IsReport}
-use Rattle.nccheck_laws.specs.FaultLaws.{HasNoFault}
+use Rattle.nccheck_laws.specs.FaultLaws.{HasNoFault, finds_missing}
 
 -- a fact about the spelling of a header: it says the same as the header's own spelling, in other bytes
 abbrev pub is_of_spelling : Fact → Bool
@@ -126,6 +126,16 @@ WholeReportsAreDumped = (bytes : Bytes) (r : Report) (o : Options) (text : Bytes
 -- and exactly if the file holds a dataset
 abbrev pub WholeFilesHoldDatasets : Type 0
 WholeFilesHoldDatasets = (bytes : Bytes) (r : Report) → IsReport bytes r → FindsWholeFile r ↔ ((d : Dataset) × HoldsDataset bytes d)
+
+-- the dump ends at a missing value
+abbrev pub is_truncated : Ending → Bool
+is_truncated (data_truncated variable value) = true
+is_truncated ending = false
+
+-- in a file that begins with a header, values are found to be missing exactly if the dump of all values ends at a missing value
+abbrev pub MissingValuesStopDumps : Type 0
+MissingValuesStopDumps = (bytes : Bytes) (r : Report) (h : Header) (rest : Bytes) (o : Options) (text : Bytes) (ending : Ending)
+    → IsReport bytes r → SpellsHeader bytes h rest → ShowsAllValues o → IsDump bytes o text ending → finds_missing r ≡ is_truncated ending
 
 -- and so it is in the file of each good dataset that fits
 abbrev pub GeneratedFilesAreFoundWhole : Type 0

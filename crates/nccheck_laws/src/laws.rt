@@ -12,7 +12,7 @@ ghost use Rattle.nccheck_laws.specs.ReportLaws.{QuietSpellingsAreCanonical, Cano
 ghost use Rattle.nccheck_laws.specs.ReportLaws.{QuietFilesAreCanonical};
 ghost use Rattle.nccheck_laws.specs.ErrorLaws.{ListedHeadersTellMissingValues, ListedHeadersHaveSlabsApart, ApartSlabsHaveValuesApart};
 ghost use Rattle.nccheck_laws.specs.ErrorLaws.{ReportsWithoutErrorsHaveValues};
-ghost use Rattle.nccheck_laws.specs.ReportLaws.{WholeReportsAreDumped, WholeFilesHoldDatasets, GeneratedFilesAreFoundWhole};
+ghost use Rattle.nccheck_laws.specs.ReportLaws.{WholeReportsAreDumped, MissingValuesStopDumps, WholeFilesHoldDatasets, GeneratedFilesAreFoundWhole};
 ghost use Rattle.nccheck_laws.specs.ReportLaws.{GeneratedFilesHaveQuietLayouts, GeneratedFilesHaveQuietSpellings};
 ghost use Rattle.nccheck_laws.specs.OneReport.{EachFileHasReport, ReportsAreOne};
 
@@ -177,15 +177,18 @@ pub fn reports_without_errors_have_values()
     ensures values { ReportsWithoutErrorsHaveValues }
 {}
 
-/// States three laws of the report of a file, and does nothing. They name the kinds of findings that stop a dump (`stops_dump`): those of
+/// States four laws of the report of a file, and does nothing. They name the kinds of findings that stop a dump (`stops_dump`): those of
 /// faults, and [`Kind::Missing`](nc_report::Kind::Missing). `dumped`: no finding has such a kind exactly if `ncdump` prints the whole file:
 /// the dump of all values ends with the whole text.
 ///
-/// `holds`: that is so exactly if the file holds a dataset, the one whose text is printed.
+/// `missing`: in a file whose header can be read, values are found to be missing exactly if the dump of all values ends at a missing value.
+///
+/// `holds`: no finding has a kind that stops a dump exactly if the file holds a dataset, the one whose text is printed.
 ///
 /// `generated`: and it is so in the report of a file that `ncgen` writes.
 pub fn whole_files_hold_datasets()
     ensures dumped { WholeReportsAreDumped }
+    ensures missing { MissingValuesStopDumps }
     ensures holds { WholeFilesHoldDatasets }
     ensures generated { GeneratedFilesAreFoundWhole }
 {}
