@@ -21,14 +21,7 @@ agree-length v has_record k steps = agree-leaf refl refl refl refl (λ from. gri
 agree-text : (n : ℕ) (steps : List Step)
     → Agree (λ text. text) (Text ∷ steps) (checked is_name BadName (bytes n HeaderTruncated))
     (checked may_be_name BadName (bytes n HeaderTruncated))
-agree-text n steps =
-    agree-leaf refl refl refl refl
-    (λ from. text-judges n steps (take n from) (is_name (take n from)) (may_be_name (take n from)) refl refl)
-  where
-    text-judges : (n : ℕ) (steps : List Step) (bs : Bytes) (is may : Bool) → is_name bs ≡ is → may_be_name bs ≡ may
-        → Judges (λ x. x) (if is then Ok bs else Err BadName) (if may then Ok bs else Err BadName)
-        (refusal_in n (content.Bytes bs) (Text ∷ steps) (fault_of {A = Bytes} (if may then Ok bs else Err BadName)))
-    text-judges n steps bs is may e d = grind (arith, name-may-be)
+agree-text n steps = agree-leaf refl refl refl refl (λ from. grind (arith, name-may-be (take n from)))
 
 agree-name : (v : Version) (steps : List Step) → Agree (λ text. text) (Name ∷ steps) (name_part strict v) (name_part lenient v)
 unfolding name_part limited_part number ignored

@@ -31,9 +31,6 @@ fault_of (Err e) = Some e
 abbrev field_with : List Step → Bytes → ℕ → Option FormatFault → Field
 field_with steps from n fault = record { steps = steps; start = from; size = n; fault = fault }
 
-drop-short : {X : Type 0} (n : ℕ) (xs : List X) → length xs < n → drop n xs ≡ []
-drop-short n xs lt = grind (arith, common_steps)
-
 -- of the field of these bytes, which are there or not
 read-agrees : {A B : Type 0} (f : A → B) (steps : List Step) (n : ℕ) (cut : FormatFault) (from : Bytes) (x : Result A FormatFault)
     (y : Result B FormatFault) (b : Bool) → leb n (length from) ≡ b
@@ -42,18 +39,14 @@ read-agrees : {A B : Type 0} (f : A → B) (steps : List Step) (n : ℕ) (cut : 
     let r = read_bytes b (drop n from) cut y in
     Agrees f o r (field_with steps from n (fault_in o) ∷ []) (field_with steps from n (fault_in r) ∷ [])
 read-agrees f steps n cut from v5 v6 true e judges = let t = le-ltb _ _ (leb-true _ _ e) in grind arith
-read-agrees f steps n cut from x y false e judges = let t = lt-ltb _ _ (leb-false _ _ e) in grind (arith, drop-short)
+read-agrees f steps n cut from x y false e judges = let t = lt-ltb _ _ (leb-false _ _ e) in grind (arith, common_steps)
 
 pub agree-leaf : {A B : Type 0} {f : A → B} {steps : List Step} {p : Part A} {q : Part B}
     → is_leaf p ≡ true → is_leaf q ≡ true → leaf_size q ≡ leaf_size p → leaf_cut q ≡ leaf_cut p
     → ((from : Bytes) → Judges f (judge p (take (leaf_size p) from)) (judge q (take (leaf_size p) from))
     (refusal_in (leaf_size p) (whole_content steps (leaf_size p) from) steps (fault_of (judge q (take (leaf_size p) from)))))
     → Agree f steps p q
-agree-leaf {f = f} {steps = steps} {p = p} {q = q} leaf other size cut judges = record {
-  at = λ from.
-      rw (leaf-field p leaf steps from, leaf-field q other steps from, leaf-run p from leaf, leaf-run q from other, size, cut)
-      (read-agrees f steps (leaf_size p) (leaf_cut p) from _ _ _ refl (judges from));
-}
+agree-leaf {f = f} {steps = steps} {p = p} {q = q} leaf other size cut judges = grind (arith, common_steps, leaf-run, leaf-field, read-agrees)
 
 same-judges : {A : Type 0} (y : Result A FormatFault) (refused : Option FormatFault) → refused ≡ fault_of y → Judges (λ x. x) y y refused
 same-judges y refused is = grind arith
@@ -85,11 +78,6 @@ refused-append : (fs more : List Field) → first_refusal (fs ++ more) ≡ optio
 refused-append [] more = refl
 refused-append (f ∷ fs) more = grind (arith, refused-append fs more)
 
--- after fields that aren't refused
-after-agrees : {A B : Type 0} (f : A → B) (before fs gs : List Field) (o : Outcome A) (r : Outcome B) → first_refusal before ≡ None
-    → Agrees f o r fs gs → Agrees f o r (before ++ fs) (before ++ gs)
-after-agrees f before fs gs v4 v5 none agrees = grind (arith, refused-append)
-
 -- a part and what follows it, whose fields come after those of the part
 then-agrees : {A B C D : Type 0} (f : A → B) (g : C → D) (fs gs : List Field) (o : Outcome A) (r : Outcome B)
     (next : A → Bytes → Outcome C) (other : B → Bytes → Outcome D) (more : A → Bytes → List Field) (also : B → Bytes → List Field)
@@ -97,9 +85,7 @@ then-agrees : {A B C D : Type 0} (f : A → B) (g : C → D) (fs gs : List Field
     → ((x : A) (rest : Bytes) → Agrees g (next x rest) (other (f x) rest) (more x rest) (also (f x) rest))
     → Agrees g (and_then o next) (and_then r other) (elim o as (λ o. List Field) [ Ok x ↦ fs ++ more x.0 x.1 | Err e ↦ fs ])
     (elim r as (λ r. List Field) [ Ok y ↦ gs ++ also y.0 y.1 | Err e ↦ gs ])
-then-agrees f g fs gs (Ok x) (Ok y) next other more also (same, along, none, fields) go =
-    rw (same, along, fields) (after-agrees g fs (more x.0 x.1) (also (f x.0) x.1) (next x.0 x.1) (other (f x.0) x.1)
-    (subst (λ fs. first_refusal fs ≡ None) fields none) (go x.0 x.1))
+then-agrees f g fs gs (Ok x) (Ok y) next other more also (same, along, none, fields) go = grind (arith, common_steps, refused-append)
 then-agrees f g fs gs (Ok x) (Err e) next other more also never go = absurd never
 then-agrees f g fs gs (Err e) (Ok y) next other more also is go = grind (arith, refused-append)
 then-agrees f g fs gs (Err e) (Err d) next other more also is go = is

@@ -1,6 +1,6 @@
 -- Where slots and blocks end if each slot begins in its canonical place; so a file without findings at begins and at its end has the
 -- length of a generated one.
-use Rattle.nccheck_laws.proofs.Prelude.{Contains, cases_lt, lt-ltb, nat_tests, slice_get_within, Slot, FileLayout, Extent, padded_slab, is_fixed, slab_in_record, record_size, records_begin, record_count, slot_block, records_block, blocks, has_values, bytes_before, used_end, end_findings, IsSoundSlot, IsSoundLayout, is_record_slot, contains-filter, greatest_from-ge, greatest_from-above, greatest_from-least, fixed_bytes, is_of_end, canonical_begin, HasCanonicalBegins, canonical_len, QuietLengthIsCanonical, ◌≡◌, ℕ, zero, suc, ◌+◌, ◌-◌, ◌*◌, ◌<◌, ◌≤◌, true, length, filter, subst, arith, Option, Some, IfSome, max, refl}
+use Rattle.nccheck_laws.proofs.Prelude.{Contains, cases_lt, lt-ltb, nat_tests, slice_get_within, Slot, FileLayout, Extent, padded_slab, is_fixed, slab_in_record, record_size, records_begin, record_count, slot_block, records_block, blocks, has_values, bytes_before, used_end, end_findings, IsSoundSlot, IsSoundLayout, is_record_slot, contains-filter, greatest_from-ge, greatest_from-above, greatest_from-least, fixed_bytes, is_of_end, canonical_begin, HasCanonicalBegins, canonical_len, QuietLengthIsCanonical, ◌≡◌, ℕ, zero, suc, ◌+◌, ◌-◌, ◌*◌, ◌<◌, ◌≤◌, true, length, filter, subst, arith, Option, Some, IfSome, max, refl, common_steps}
 use Rattle.nc_layout.specs.FileEnd.{padding_end}
 use Rattle.nccheck_laws.proofs.IndexedSlots.{At, all-at, total-below, total-whole, total-reach, slab-fits, part-le}
 use Rattle.nccheck_laws.proofs.LayoutBlocks.{each-block, fixed-there, records-there, fixed_place, all-place, records_end-above, records_end-le, first_begin, begins, begin-is}
@@ -93,11 +93,7 @@ records-reached layout sound h some =
     omega (arith, total-whole (slab_in_record slots) is_record_slot slots, times-pred n (record_size slots) some)
 
 pub padding-ge : (layout : FileLayout) → IsSoundLayout layout → HasCanonicalBegins layout → canonical_len layout ≤ padding_end layout
-padding-ge layout sound h =
-    let fixed = fixed-reached layout sound h in
-    let n = record_count layout in
-    let size = record_size layout.slots in
-    grind (arith, cases_lt 0 n, cases_lt 0 size, records-reached layout sound h)
+padding-ge layout sound h = grind (arith, common_steps, cases_lt, fixed-reached, records-reached)
 
 -- ---- the law
 

@@ -1,6 +1,6 @@
 -- Where each slot begins in its canonical place, nothing is found at the begins; nor at the end of a file of the canonical length. So nothing
 -- is found in the layout of a generated file.
-use Rattle.nccheck_laws.proofs.Prelude.{Contains, cases_lt, nat_tests, Slot, FileLayout, Extent, padded_slab, is_fixed, slab_in_record, record_count, slot_block, records_block, blocks, before, precedes, has_values, slot_findings, block_findings, greatest_end, values_end, used_end, end_findings, IsSoundSlot, IsSoundLayout, is_of_begin, is_of_end, HasCanonicalBegins, CanonicalBeginsAreQuiet, CanonicalLengthIsQuiet, value_end, filter-contains, greatest_from-ge, greatest_from-above, greatest_from-least, Header, Var, vars_with_begins, with_begins, header_spelling, slot_of, layout_of, GeneratedFilesAreQuiet, canonical_begin, ◌≡◌, ℕ, ◌+◌, ◌≤◌, max, true, length, take, filter, arith, refl, zero, suc, List, [], ◌∷◌, ◌++◌, map, slice_get, IfSome, sym, ◌∙◌, ap, append_assoc, length-append}
+use Rattle.nccheck_laws.proofs.Prelude.{Contains, cases_lt, nat_tests, Slot, FileLayout, Extent, padded_slab, is_fixed, slab_in_record, record_count, slot_block, records_block, blocks, before, precedes, has_values, slot_findings, block_findings, greatest_end, values_end, used_end, end_findings, IsSoundSlot, IsSoundLayout, is_of_begin, is_of_end, HasCanonicalBegins, CanonicalBeginsAreQuiet, CanonicalLengthIsQuiet, value_end, filter-contains, greatest_from-ge, greatest_from-above, greatest_from-least, Header, Var, vars_with_begins, with_begins, header_spelling, slot_of, layout_of, GeneratedFilesAreQuiet, canonical_begin, ◌≡◌, ℕ, ◌+◌, ◌≤◌, max, true, length, take, filter, arith, refl, zero, suc, List, [], ◌∷◌, ◌++◌, map, slice_get, IfSome, sym, ◌∙◌, ap, append_assoc, length-append, fold, le_trans, le_refl}
 use Rattle.nc_layout.specs.FileEnd.{padding_end}
 use Rattle.nc_layout.specs.code.Sweep as sweep
 use Rattle.nccheck_laws.proofs.FoundNone.{Quiet, all-quiet}
@@ -129,32 +129,21 @@ slot-end : (layout : FileLayout) (i : ℕ) (x : Slot) → Quiet is_of_end (slot_
 unfolding slot_findings
 slot-end layout i x = grind arith
 
-block-end : (layout : FileLayout) (b : Extent) → Quiet is_of_end (block_findings layout.header_end (blocks layout) b)
-unfolding block_findings
-block-end layout b = grind arith
-
-padding-used : (layout : FileLayout) → padding_end layout ≤ used_end layout
-padding-used layout =
-    greatest_from-least (λ (b : Extent). b.padded_end) layout.header_end (used_end layout) (filter has_values (blocks layout))
-    (greatest_from-ge (λ (b : Extent). b.padded_end) layout.header_end (blocks layout))
-    (λ c has. greatest_from-above (λ (b : Extent). b.padded_end) layout.header_end (blocks layout) c
-    (filter-contains has_values (blocks layout) c has).0)
-
-values-used : (layout : FileLayout) → values_end layout ≤ used_end layout
-values-used layout =
-    greatest_from-least (λ (b : Extent). b.end) layout.header_end (used_end layout) (filter has_values (blocks layout))
+-- the values end within the used end, with their padding and without it
+ends-used : (layout : FileLayout) (end : Extent → ℕ) → ((b : Extent) → Contains (blocks layout) b → end b ≤ b.padded_end)
+    → fold max layout.header_end (map end (filter has_values (blocks layout))) ≤ used_end layout
+ends-used layout end le =
+    greatest_from-least end layout.header_end (used_end layout) (filter has_values (blocks layout))
     (greatest_from-ge (λ (b : Extent). b.padded_end) layout.header_end (blocks layout))
     (λ c has. let there = (filter-contains has_values (blocks layout) c has).0 in
-    let le = end-padded layout c there in
-    let above = greatest_from-above (λ (b : Extent). b.padded_end) layout.header_end (blocks layout) c there in omega arith)
-
-end-none : (layout : FileLayout) → values_end layout ≤ layout.file_len → padding_end layout ≤ layout.file_len
-    → layout.file_len ≤ used_end layout → Quiet is_of_end (end_findings layout)
-unfolding end_findings
-end-none layout values padding used = grind (arith, nat_tests)
+    le_trans (le c there) (greatest_from-above (λ (b : Extent). b.padded_end) layout.header_end (blocks layout) c there))
 
 pub length-quiet : CanonicalLengthIsQuiet
-length-quiet layout sound h len = grind (arith, used-le, padding-ge, padding-used, values-used, all-quiet, slot-end, end-none, block-end)
+unfolding block_findings end_findings
+length-quiet layout sound h len =
+    let padding = ends-used layout (λ b. b.padded_end) (λ b has. le_refl b.padded_end) in
+    let values = ends-used layout (λ b. b.end) (end-padded layout) in
+    grind (arith, used-le, padding-ge, all-quiet, slot-end, nat_tests)
 
 -- ---- generated files
 

@@ -38,13 +38,9 @@ own-fault : (fault : FormatFault) (c : Content) → fault_among (fault_fact faul
 own-fault NotNetcdf c = fault-fact (λ x. fault_among (x ∷ []) ≡ Some NotNetcdf) NotNetcdf c refl refl refl refl
 own-fault fault c = refl
 
-still-refused : (size : ℕ) (c : Content) (place : FieldName) (owner : Owner) (fault : FormatFault) → is_floating_in place c ≡ false
-    → refusal_in size c (name_steps place ++ owner_steps owner) (Some fault) ≡ Some fault
-still-refused size c place owner fault plain = grind arith
-
 pub facts-fault : (size : ℕ) (c : Content) (place : FieldName) (owner : Owner) (o : Option FormatFault) → is_floating_in place c ≡ false
     → fault_among (facts_with o place size c) ≡ refusal_in size c (name_steps place ++ owner_steps owner) o
-facts-fault size c place owner (Some fault) plain = own-fault fault c ∙ sym (still-refused size c place owner fault plain)
+facts-fault size c place owner (Some fault) plain = own-fault fault c ∙ sym (grind arith)
 facts-fault size (content.Number n) name.NumRecs owner None plain = grind arith
 facts-fault size (content.Number n) name.Length owner None plain = rw (length-refusal size n owner) (grind arith)
 facts-fault size (content.Number n) name.NameLength owner None plain = grind arith

@@ -23,16 +23,12 @@ descend-judged top bottom (Ok x) fs d = d
 descend-judged top bottom (Err fault) [] d = d
 descend-judged {A = A} top bottom (Err fault) (f ∷ fs) d = (d.0, descend-judged {A = A} (length f.start) bottom (Err fault) fs d.1)
 
-same-left : {A : Type 0} (y : Result A FormatFault) (rest : Bytes) → length rest ≡ left_after (with_rest y rest)
-unfolding left_after
-same-left v0 rest = grind arith
-
 descend-decoded : {A B : Type 0} (decode : A → Result B FormatFault) (top : ℕ) (fs : List Field) (o : Outcome A)
     → Descend top (left_after o) fs
     → Descend top (left_after (and_then o (λ x rest. with_rest (decode x) rest)))
     (elim o as (λ o. List Field) [ Ok x ↦ judged (decode x.0) fs | Err e ↦ fs ])
 unfolding left_after
-descend-decoded decode top fs (Ok x) d = grind (arith, same-left, descend-judged)
+descend-decoded decode top fs (Ok x) d = grind (arith, descend-judged)
 descend-decoded decode top fs (Err e) d = d
 
 descend-chain : {A B : Type 0} (next : A → Bytes → Outcome B) (more : A → Bytes → List Field) (top : ℕ) (fs : List Field) (o : Outcome A)

@@ -57,10 +57,8 @@ NoFloat (Err e) = is_floating_fault e.0 ≡ false
 leaf-plain : {A : Type 0} (p : Part A) (from : Bytes) → NeverFloats p → NoFloat (run p from)
 unfolding run
 leaf-plain (bytes n cut) from never = grind arith
-leaf-plain (decoded decode encode p) from never = let more = leaf-plain p from never.1 in grind arith
-leaf-plain (done x) from never = tt
-leaf-plain (under step p) from never = absurd never
-leaf-plain (chain get p next) from never = absurd never
+leaf-plain (decoded decode encode p) from never = grind (arith, leaf-plain p from never.1)
+leaf-plain p from never = absurd never
 
 -- if reading stops, a field has its fault, which isn't that of a floating type
 abbrev pub Shows : {A : Type 0} → Outcome A → List Field → Type 0
@@ -72,13 +70,7 @@ abbrev AreShown : {A : Type 0} → Outcome A → List Field → Type 0
 AreShown o fs = ArePlaced fs × Shows o fs
 
 leaf-shown : {A : Type 0} (steps : List Step) (p : Part A) (from : Bytes) → IsPlaced steps p → AreShown (run p from) (fields steps p from)
-leaf-shown {A = A} steps p from (place, leaf, never) =
-    let plain = leaf-plain p from never in
-    rw (leaf-field p leaf steps from) ((place, tt), by-outcome (run p from) plain)
-  where
-    by-outcome : (o : Outcome A) → NoFloat o → Shows o (record { steps = steps; start = from; size = leaf_size p; fault = fault_in o } ∷ [])
-    by-outcome (Ok x) plain = tt
-    by-outcome (Err e) plain = (inl refl, plain)
+leaf-shown {A = A} steps p from (place, leaf, never) = rw (leaf-field p leaf steps from) ((place, tt), grind (arith, leaf-plain p from never))
 
 chain-shown : {A B : Type 0} (o : Outcome A) (fs : List Field) (next : A → Bytes → Outcome B) (more : A → Bytes → List Field)
     → AreShown o fs → ((x : A) (rest : Bytes) → AreShown (next x rest) (more x rest))

@@ -1,5 +1,5 @@
 -- The first fault of a report is that of the first entry that the strict rules refuse.
-use Rattle.nccheck_laws.proofs.Prelude.{nat_tests, list_any, list_any-append, list_any-IsPermutation, Contains, All-cons, Contains-append_right, FormatFault, FloatingType, Bytes, header_part, header_by, run, Entry, lenient, first_refusal, header_fields, Fact, Finding, Report, Indexed, field_at, indexed_from, finding, facts_of, findings_at, field_findings, floating_findings, header_findings, all_findings, IsReport, is_fault, All-contains, All-permutation, left_after, is_floating_in, floating_finding, is_eq, tied_itself, All-head, All-tail, Contains-append_cases, Any-from_list_any, strict_fault, HasNoFault, IsReadable, FindsFirst, FaultlessHeadersAreReadable, FirstFaultIsReaders, ◌-◌, min, ◌≡◌, ◌==◌, ◌&&◌, ℕ, ◌+◌, ◌≤◌, ◌⊎◌, inl, inr, Bool, true, false, List, [], ◌∷◌, ◌++◌, length, map, flat_map, Option, Some, None, refl, sym, ap, ◌∙◌, subst, arith, le_refl, All, option_to_list, contains-here}
+use Rattle.nccheck_laws.proofs.Prelude.{nat_tests, list_any, list_any-append, list_any-IsPermutation, Contains, All-cons, Contains-append_right, FormatFault, FloatingType, Bytes, header_part, header_by, run, Entry, lenient, first_refusal, header_fields, Fact, Finding, Report, Indexed, field_at, indexed_from, finding, facts_of, findings_at, field_findings, floating_findings, header_findings, all_findings, IsReport, is_fault, All-contains, All-permutation, left_after, is_floating_in, floating_finding, is_eq, tied_itself, All-head, All-tail, Contains-append_cases, Any-from_list_any, strict_fault, HasNoFault, IsReadable, FindsFirst, FaultlessHeadersAreReadable, FirstFaultIsReaders, ◌-◌, min, ◌≡◌, ◌==◌, ◌&&◌, ℕ, ◌+◌, ◌≤◌, ◌⊎◌, inl, inr, Bool, true, false, List, [], ◌∷◌, ◌++◌, length, map, flat_map, Option, Some, None, refl, sym, ap, ◌∙◌, subst, arith, le_refl, All, option_to_list, contains-here, common_steps}
 use Rattle.nc_base.specs.contracts.fault.FormatFaultOrd.TheImpl as faults
 use Rattle.nc_base.specs.contracts.fault.FormatFaultOrd.TheImpl.Laws as fault_laws
 use Rattle.nc_base.proofs.PartPlaces.{stops-in}
@@ -60,14 +60,7 @@ entries-tell : (fault : FormatFault) (front : List Entry) (e : Entry) (back : Li
     → All (λ (x : Entry). refusal_of x ≡ None) front → refusal_of e ≡ Some fault
     → list_any (tells fault e.offset) (header_findings (front ++ e ∷ back)) ≡ true
 unfolding header_findings field_findings floating_findings
-entries-tell fault front e back none refused = by-test (is_floating_in e.place.name e.content) refl
-  where
-    by-test : (b : Bool) → is_floating_in e.place.name e.content ≡ b
-        → list_any (tells fault e.offset) (header_findings (front ++ e ∷ back)) ≡ true
-    by-test true is = rw (floating-fault e fault refused is) (grind (arith, list_any-append, floating-tells 0 front e back none is))
-    by-test false is =
-        let told = fields-tell fault 0 front e back (facts-fault e.size e.content e.place.name e.place.owner e.fault is ∙ refused) in
-        grind (arith, list_any-append)
+entries-tell fault front e back none refused = grind (arith, common_steps, list_any-append, facts-fault, floating-fault, fields-tell, floating-tells)
 
 -- ---- no fault before it
 
@@ -90,10 +83,6 @@ refused-first bytes r fault rest report refused =
     (header_fields bytes) r.listing.entries fault rest report.listing.entries
     (le_refl (length bytes)) (fields-descend [] (header_by lenient) bytes) refused
 
--- where an entry ends
-end-of : (len end offset size left : ℕ) → end + left ≡ len → offset ≤ len → left ≡ len - offset - size → end ≡ min (offset + size) len
-end-of len end offset size left at within is = grind arith
-
 report-tells : (bytes : Bytes) (r : Report) (fault : FormatFault) (rest : Bytes) → IsReport bytes r
     → (first : FirstRefused (length bytes) r.listing.entries fault rest) → list_any (tells fault first.entry.offset) r.findings ≡ true
 unfolding all_findings
@@ -108,7 +97,7 @@ finds-first bytes r fault rest end report first at =
     let found = Any-from_list_any (tells fault first.entry.offset) r.findings (report-tells bytes r fault rest report first) in
     let is : is_same (strict_fault found.1.fact) fault ≡ true = grind arith in
     let begins : found.1.offset ≡ first.entry.offset = grind (arith, nat_tests) in
-    let ended = end-of (length bytes) end first.entry.offset first.entry.size (length rest) at first.ends.within first.ends.left in
+    let ended : end ≡ min (first.entry.offset + first.entry.size) (length bytes) = omega (arith, first.ends.within, first.ends.left) in
     record {
       found = found.1;
       in_report = (found.0, found.2, found.3);
@@ -139,15 +128,12 @@ readable bytes r report none (Some (fault, rest)) is =
     let quiet = All-contains (λ (f : Finding). is_fault f.fact ≡ false) r.findings found.1 none (found.0, found.2, found.3) in
     absurd (grind (arith, same-told (strict_fault found.1.fact) fault))
 
-not-true : (b : Bool) → (b ≡ true → ⊥) → b ≡ false
-not-true v0 never = grind arith
-
 no-fault : (bytes : Bytes) (r : Report) → IsReport bytes r → first_refusal (header_fields bytes) ≡ None → HasNoFault r
 no-fault bytes r report none =
     let quiet = none-refused (length bytes) (header_fields bytes) r.listing.entries report.listing.entries none in
     let lie = all-lie (λ n. ⊥) r.listing (λ x has. inl (All-contains (λ (e : Entry). refusal_of e ≡ None) r.listing.entries x quiet has)) in
     let all = All-permutation (FaultsLieAt (λ n. ⊥)) (all_findings r.listing) r.findings report.all lie in
-    λ k x lt. not-true _ (all k x lt)
+    λ k x lt. grind (arith, all k x lt)
 
 pub faultless : FaultlessHeadersAreReadable
 faultless bytes r report = (

@@ -1,5 +1,5 @@
 -- What holds of each slot, of each block and at the end of the file if no finding is of a kind, and the converse.
-use Rattle.nccheck_laws.proofs.Prelude.{list_any, Contains, list_any-append, Slot, FileLayout, LayoutFinding, each_slot, layout_findings, LayoutFact, FindsNone, Extent, blocks, slot_findings, block_findings, end_findings, contains-none, contains-here, contains-there, contains-cases, ◌≡◌, ℕ, zero, suc, ◌+◌, Bool, false, List, [], ◌∷◌, ◌++◌, refl, subst, arith, inl, inr, flat_map}
+use Rattle.nccheck_laws.proofs.Prelude.{list_any, Contains, list_any-append, Slot, FileLayout, LayoutFinding, each_slot, layout_findings, LayoutFact, FindsNone, Extent, blocks, slot_findings, block_findings, end_findings, contains-none, contains-here, contains-there, contains-cases, ◌≡◌, ℕ, zero, suc, ◌+◌, Bool, false, List, [], ◌∷◌, ◌++◌, refl, subst, arith, inl, inr, flat_map, common_steps}
 use Rattle.nc_layout.specs.declared.finding.LayoutFact.TheVariants as facts
 use Rattle.nc_layout.specs.NumRecsRules.{numrecs_findings}
 use Rattle.nccheck_laws.proofs.IndexedSlots.{At}
@@ -13,10 +13,8 @@ parts kind a b c d h = (grind (arith, list_any-append), grind (arith, list_any-a
 
 pub quiet-from : {A : Type 0} (p : A → Bool) (f : ℕ → Slot → List A) (i : ℕ) (slots : List Slot) (k m : ℕ)
     → list_any p (each_slot f i slots) ≡ false → (x : Slot) → At slots k x → m ≡ i + k → list_any p (f m x) ≡ false
-quiet-from p f i [] k m h x at is = absurd cc
-quiet-from p f i (y ∷ ys) zero m h x at is = grind (arith, list_any-append)
-quiet-from p f i (y ∷ ys) (suc k) m h x at is =
-    quiet-from p f (i + 1) ys k m (grind (arith, list_any-append)) x at (omega arith)
+quiet-from p f i [] k m h x at is = cc
+quiet-from p f i (y ∷ ys) v4 m h x at is = grind (arith, list_any-append, λ (k : ℕ). quiet-from p f (i + 1) ys k m)
 
 pub quiet-slot : (kind : LayoutFact → Bool) (layout : FileLayout) (i : ℕ) (x : Slot) → FindsNone kind layout → At layout.slots i x
     → Quiet kind (slot_findings layout i x)
@@ -56,23 +54,11 @@ flat-quiet : (kind : LayoutFact → Bool) (f : Extent → List LayoutFinding) (b
 flat-quiet kind f [] each = refl
 flat-quiet kind f (b ∷ bs) each = grind (arith, flat-quiet kind f bs (λ c has. each c (contains-there b c bs has)), contains-here, contains-there, list_any-append)
 
-numrecs-quiet : (kind : LayoutFact → Bool) (layout : FileLayout) → ((n : ℕ) → kind (facts.Streaming n) ≡ false)
-    → ((n : ℕ) → kind (facts.UnusedRecords n) ≡ false) → Quiet kind (numrecs_findings layout)
-unfolding numrecs_findings
-numrecs-quiet kind layout streamed unused = grind arith
-
-all-of : (kind : LayoutFact → Bool) (a b c d : List LayoutFinding) → Quiet kind a → Quiet kind b → Quiet kind c → Quiet kind d
-    → Quiet kind (a ++ b ++ c ++ d)
-all-of kind a b c d first second third fourth = grind (arith, list_any-append)
-
 -- no finding is of a kind that isn't one of findings at the number of records
 pub all-quiet : (kind : LayoutFact → Bool) (layout : FileLayout) → ((n : ℕ) → kind (facts.Streaming n) ≡ false)
     → ((n : ℕ) → kind (facts.UnusedRecords n) ≡ false)
     → ((i : ℕ) (x : Slot) → At layout.slots i x → Quiet kind (slot_findings layout i x))
     → Quiet kind (end_findings layout)
     → ((b : Extent) → Contains (blocks layout) b → Quiet kind (block_findings layout.header_end (blocks layout) b)) → FindsNone kind layout
-unfolding layout_findings
-all-quiet kind layout streamed unused slots end bs =
-    let each = each-quiet _ (slot_findings layout) 0 layout.slots (λ k m x at is.
-    let same : k ≡ m = omega arith in subst (λ n. Quiet kind (slot_findings layout n x)) same (slots k x at)) in
-    grind (arith, all-of, numrecs-quiet, flat-quiet)
+unfolding layout_findings numrecs_findings
+all-quiet kind layout streamed unused slots end bs = grind (arith, common_steps, each-quiet, flat-quiet, list_any-append)

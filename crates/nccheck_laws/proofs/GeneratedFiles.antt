@@ -1,5 +1,6 @@
 -- The begins and the length of a generated file are the canonical ones, whatever begins the header has.
 use Rattle.nccheck_laws.proofs.Prelude.{zip, range_with_len, common_steps, map-append, length-map, take-append-le, take-length, Dataset, Dim, Header, Var, Known, Bytes, data_of, file_of, fixed_vars, known_records, record_part, slabs_before, vars_with_begins, with_begins, header_spelling, AreArrays, bare, bare_var, padded_total, record_size_of, record_vars, header-len-bare, len-after, record_size_of-bare, records-bare, Slot, record_count, slot_of, layout_of, record_slots-total, CanonicalBeginsAreGenerated, QuietFilesAreGenerated, canonical_begin, canonical_len, HasCanonicalBegins, ◌≡◌, ℕ, zero, suc, ◌+◌, ◌*◌, ◌<◌, ◌≤◌, List, [], ◌∷◌, ◌++◌, length, map, refl, sym, ◌∙◌, arith, append_assoc, length-append, Some, slice_get, flat_map}
+use Rattle.nccheck_laws.proofs.IndexedSlots.{at-middle}
 use Rattle.nc_base.specs.GeneratedFile.{is_sole_narrow as is_sole_narrow_var}
 use Rattle.nc_base.proofs.FilePlaces.{length-blocks, length-record, padded_total-append, record_size_of-slots, slots as record_bytes}
 use Rattle.nccheck_laws.proofs.CanonicalBegins.{quiet-begins}
@@ -33,9 +34,7 @@ len-bare h n known = grind (arith, header-len-bare h h.vars)
 vars-bare : (h : Header) (n : ℕ) (before vars : List Var) → h.numrecs ≡ Known n
     → vars_with_begins (bare h n) (bare_vars before) (bare_vars vars) ≡ vars_with_begins h before vars
 vars-bare h n before [] known = refl
-vars-bare h n before (var ∷ vars) known =
-    let more = vars-bare h n (before ++ var ∷ []) vars known in
-    grind (arith, len-bare h n known, map-append, padded_total-append, fixed-bare, record-bare)
+vars-bare h n before (var ∷ vars) known = grind (arith, common_steps, map-append, padded_total-append, fixed-bare, record-bare, len-bare, vars-bare h n (before ++ var ∷ []) vars known)
 
 pub begins-bare : (h : Header) (n : ℕ) → h.numrecs ≡ Known n → with_begins (bare h n) ≡ with_begins h
 unfolding with_begins
@@ -43,25 +42,18 @@ begins-bare h n known = grind (arith, vars-bare h n [] h.vars known)
 
 -- ---- begins
 
-slot-there : (before : List Slot) (slot : Slot) (slots : List Slot) → slice_get (before ++ slot ∷ slots) (length before) ≡ Some slot
-slot-there [] slot slots = refl
-slot-there (x ∷ before) slot slots = slot-there before slot slots
-
 -- the bytes before a slot are those of the slabs before its variable
 pub begin-is : (h : Header) (header_end file_len : ℕ) (before : List Var) (var : Var) (vars : List Var) → h.vars ≡ before ++ var ∷ vars
     → canonical_begin (layout_of h header_end file_len) (length before) (slot_of h.dims var)
     ≡ header_end + padded_total h.dims (slabs_before h before var)
-begin-is h header_end file_len before var vars is =
-    let slots = map (slot_of h.dims) before in
-    let front = take-append-le (length before) slots in
-    grind (arith, map-append, length-map, take-length slots, fixed_slots-total, record_slots-total, padded_total-append)
+begin-is h header_end file_len before var vars is = grind (arith, common_steps, map-append, length-map, take-append-le, take-length, record_slots-total, padded_total-append, fixed_slots-total)
 
 -- begins that are canonical are those of the generated file
 begins-same : (h : Header) (file_len : ℕ) (before vars : List Var) → h.vars ≡ before ++ vars
     → HasCanonicalBegins (layout_of h (length (header_spelling h)) file_len) → vars_with_begins h before vars ≡ vars
 begins-same h file_len before [] is canonical = refl
 begins-same h file_len before (var ∷ vars) is canonical =
-    let there = slot-there (map (slot_of h.dims) before) (slot_of h.dims var) (map (slot_of h.dims) vars) in
+    let there = at-middle (map (slot_of h.dims) before) (slot_of h.dims var) (map (slot_of h.dims) vars) in
     let begin = begin-is h (length (header_spelling h)) file_len before var vars is in
     let more = begins-same h file_len (before ++ var ∷ []) vars (is ∙ sym (append_assoc before (var ∷ []) vars)) canonical in
     grind (arith, map-append, length-map, canonical (length before))

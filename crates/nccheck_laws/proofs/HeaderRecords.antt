@@ -18,14 +18,10 @@ fixed_slots-total dims vars = grind (arith, fixed_slots-are, slots-total, sum-ma
 
 -- ---- the record size
 
-slots-size : (dims : List Dim) (vars : List Var)
-    → sum_by (slab_if (is_sole_narrow (map (slot_of dims) vars))) (map (slot_of dims) vars) ≡ record_size_of dims vars
-slots-size dims v1 = grind (arith, common_steps)
-
 pub size-is : (dims : List Dim) (vars : List Var) → record_size (map (slot_of dims) vars) ≡ record_size_of dims (record_vars dims vars)
 size-is dims vars =
     let narrow = is_sole_narrow (map (slot_of dims) (record_vars dims vars)) in
-    grind (arith, record_size_is (map (slot_of dims) vars) narrow, record_slots-are dims vars, slots-size dims (record_vars dims vars))
+    grind (arith, record_size_is (map (slot_of dims) vars) narrow, record_slots-are dims vars, common_steps)
 
 -- ---- the begin of the records
 

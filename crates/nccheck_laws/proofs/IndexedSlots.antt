@@ -1,5 +1,5 @@
 -- Slots at their indices, the bytes of the slots before an index, and what each slot gives.
-use Rattle.nccheck_laws.proofs.Prelude.{Contains, common_steps, length-take, All-contains, Contains-append_left, Contains-append_right, Contains-append_cases, sum_by-cons, sum_by-le-sum_by, slice_get_within, get_or_from_slice_get, slice_get-get_or, take-length, Slot, padded_slab, is_sole_narrow, record_slots, slab_in_record, record_size, each_slot, bytes_before, is_record_slot, contains-none, contains-filter, filter-contains, ◌≡◌, ℕ, zero, suc, ◌+◌, ◌<◌, max, ◌≤◌, Bool, true, false, List, [], ◌∷◌, length, take, filter, sum_by, refl, sym, ◌∙◌, ap, subst, arith, Some, slice_get, if◌then◌else◌, All}
+use Rattle.nccheck_laws.proofs.Prelude.{◌++◌, Contains, common_steps, length-take, All-contains, Contains-append_left, Contains-append_right, Contains-append_cases, sum_by-cons, sum_by-le-sum_by, slice_get_within, get_or_from_slice_get, slice_get-get_or, take-length, Slot, padded_slab, is_sole_narrow, record_slots, slab_in_record, record_size, each_slot, bytes_before, is_record_slot, contains-none, contains-filter, filter-contains, ◌≡◌, ℕ, zero, suc, ◌+◌, ◌<◌, max, ◌≤◌, Bool, true, false, List, [], ◌∷◌, length, take, filter, sum_by, refl, sym, ◌∙◌, ap, subst, arith, Some, slice_get, if◌then◌else◌, All}
 
 -- ---- elements
 
@@ -12,6 +12,10 @@ contains-at {X} xs x (k, lt, is) = (k, slice_get-get_or xs k x lt ∙ ap (λ (y 
 
 pub at-contains : {X : Type 0} (xs : List X) (k : ℕ) (x : X) → At xs k x → Contains xs x
 at-contains {X} xs k x at = (k, slice_get_within xs k x at, get_or_from_slice_get xs k x x at)
+
+pub at-middle : {X : Type 0} (before : List X) (x : X) (after : List X) → At (before ++ x ∷ after) (length before) x
+at-middle {X} [] x after = refl
+at-middle {X} (y ∷ before) x after = at-middle before x after
 
 pub all-at : {X : Type 0} (P : X → Type 0) (xs : List X) (k : ℕ) (x : X) → All P xs → At xs k x → P x
 all-at {X} P xs k x all at = All-contains P xs x all (at-contains xs k x at)
@@ -43,9 +47,7 @@ filtered-at {X} p xs i x has =
 pub there-from : {A : Type 0} (f : ℕ → Slot → List A) (i : ℕ) (slots : List Slot) (k m : ℕ) (x : Slot) (a : A) → At slots k x → m ≡ i + k
     → Contains (f m x) a → Contains (each_slot f i slots) a
 there-from {A} f i [] k m x a at is has = cc
-there-from {A} f i (y ∷ ys) zero m x a at is has = grind (arith, Contains-append_left)
-there-from {A} f i (y ∷ ys) (suc k) m x a at is has =
-    grind (arith, there-from f (i + 1) ys k m x a at (omega arith) has, Contains-append_right)
+there-from {A} f i (y ∷ ys) v3 m x a at is has = grind (arith, Contains-append_left, Contains-append_right, λ (k : ℕ). there-from f (i + 1) ys k m x a)
 
 pub in-from : {A : Type 0} (f : ℕ → Slot → List A) (i : ℕ) (slots : List Slot) (P : A → Type 0)
     → ((k m : ℕ) (x : Slot) → At slots k x → m ≡ i + k → (a : A) → Contains (f m x) a → P a) → (a : A)
@@ -83,9 +85,8 @@ pub total-reach : (f : Slot → ℕ) (p : Slot → Bool) (slots : List Slot) (b 
 total-reach f p slots b m zero each = omega arith
 total-reach f p [] b m (suc i) each = omega arith
 total-reach f p (y ∷ ys) b m (suc i) each =
-    let first = each 0 y refl (omega arith) in
-    let others = total-reach f p ys (b + (if p y then f y else 0)) m i
-    (λ k x at lt is. let h = each (suc k) x at (omega arith) is in grind (arith, common_steps)) in grind (arith, common_steps)
+    let others = total-reach f p ys (b + (if p y then f y else 0)) m i (λ k x at lt is. grind (arith, common_steps, each (suc k) x at)) in
+    grind (arith, common_steps, each 0 y refl)
 
 -- ---- a slab in the record
 

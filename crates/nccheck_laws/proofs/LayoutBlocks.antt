@@ -1,5 +1,5 @@
 -- The blocks of a layout: those of slots that aren't record slots, and that of the records.
-use Rattle.nccheck_laws.proofs.Prelude.{Contains, option_map_or, cases_lt, nat_tests, Contains-append_left, Contains-append_right, Contains-append_cases, Slot, FileLayout, Extent, padded_slab, is_fixed, record_slots, record_size, records_begin, record_count, each_slot, slot_block, fixed_block, records_end, records_block, blocks, before, precedes, greatest_end, bytes_before, is_record_slot, padding_end, contains-here, contains-filter, filter-contains, greatest_from-above, greatest_from-least, fixed_bytes, ◌≡◌, ℕ, zero, suc, ◌+◌, ◌-◌, ◌*◌, ◌<◌, ◌≤◌, max, min, true, false, List, [], ◌∷◌, length, take, fold, refl, ap, arith, Some, unwrap_or, if◌then◌else◌}
+use Rattle.nccheck_laws.proofs.Prelude.{Contains, option_map_or, cases_lt, nat_tests, Contains-append_left, Contains-append_right, Contains-append_cases, Slot, FileLayout, Extent, padded_slab, is_fixed, record_slots, record_size, records_begin, record_count, each_slot, slot_block, fixed_block, records_end, records_block, blocks, before, precedes, greatest_end, bytes_before, is_record_slot, padding_end, contains-here, contains-filter, filter-contains, greatest_from-above, greatest_from-least, fixed_bytes, ◌≡◌, ℕ, zero, suc, ◌+◌, ◌-◌, ◌*◌, ◌<◌, ◌≤◌, max, min, true, false, List, [], ◌∷◌, length, take, fold, refl, ap, arith, Some, unwrap_or, if◌then◌else◌, common_steps}
 use Rattle.nccheck_laws.proofs.IndexedSlots.{At, contains-at, at-contains, there-from, in-each, total-whole, total-reach}
 
 -- ---- each of them
@@ -24,9 +24,7 @@ fixed-there layout k x at is =
 pub records-there : (layout : FileLayout) (begin : ℕ) → records_begin layout.slots ≡ Some begin
     → Contains (blocks layout) (records_block layout.slots (record_count layout) begin)
 unfolding blocks
-records-there layout begin at =
-    let b = records_block layout.slots (record_count layout) begin in
-    Contains-append_right (each_slot fixed_block 0 layout.slots) _ b (rw at (contains-here b []))
+records-there layout begin at = grind (arith, common_steps, contains-here)
 
 -- ---- those before one
 
@@ -98,8 +96,7 @@ first_begin slots = unwrap_or (records_begin slots) 0
 pub begins : (slots : List Slot) (k : ℕ) (x : Slot) → At slots k x → x.is_record ≡ true
     → (records_begin slots ≡ Some (first_begin slots)) × (first_begin slots ≤ x.begin)
 begins [] k x at is = cc
-begins (y ∷ ys) zero x at is = grind (arith, begin-more y ys)
-begins (y ∷ ys) (suc k) x at is = grind (arith, begin-more y ys, begins ys k x at is)
+begins (y ∷ ys) v1 x at is = grind (arith, begin-more y ys, λ (k : ℕ). begins ys k x)
 
 pub begin-ge : (slots : List Slot) (begin m : ℕ) → records_begin slots ≡ Some begin
     → ((k : ℕ) (x : Slot) → At slots k x → x.is_record ≡ true → m ≤ x.begin) → m ≤ begin

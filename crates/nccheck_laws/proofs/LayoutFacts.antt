@@ -1,6 +1,6 @@
 -- What a report finds about the layout is what is found in the layout of the header; so it finds that values are missing exactly if some
 -- variable of the header has a first missing value.
-use Rattle.nccheck_laws.proofs.Prelude.{FormatFault, Dim, Header, Var, Bytes, SpellsHeader, header_by, run, reads, stops, Listing, lenient, IsOutcome, without_values, layout_of, slot_of, Report, indexed, layout_facts, whole_findings, IsReport, var_without_values, list_any, list_any-append, list_any-IsPermutation, option_map, FloatingType, name_findings, attribute_findings, strict, Entry, Content, FieldName, layout_findings, spelled-layout, Fact, Finding, Indexed, field_at, indexed_from, finding, facts_with, findings_at, field_findings, floating_findings, header_findings, vsize_findings, located, all_findings, has_any, finds, is_of_missing, is_missing, LayoutFact, LayoutFinding, ReportsTellMissingValues, is_of_layout, ◌≡◌, ℕ, ◌+◌, List, [], ◌∷◌, length, map, Result, Ok, Err, refl, ap, subst, arith, Bool, false, flat_map, Option, Some, None, sym, ◌∙◌, option_to_list}
+use Rattle.nccheck_laws.proofs.Prelude.{FormatFault, Dim, Header, Var, Bytes, SpellsHeader, header_by, run, reads, stops, Listing, lenient, IsOutcome, without_values, layout_of, slot_of, Report, indexed, layout_facts, whole_findings, IsReport, var_without_values, list_any, list_any-append, list_any-IsPermutation, option_map, FloatingType, name_findings, attribute_findings, strict, Entry, Content, FieldName, layout_findings, spelled-layout, Fact, Finding, Indexed, field_at, indexed_from, finding, facts_with, findings_at, field_findings, floating_findings, header_findings, vsize_findings, located, all_findings, has_any, finds, is_of_missing, is_missing, LayoutFact, LayoutFinding, ReportsTellMissingValues, is_of_layout, ◌≡◌, ℕ, ◌+◌, List, [], ◌∷◌, length, map, Result, Ok, Err, refl, ap, subst, arith, Bool, false, flat_map, Option, Some, None, sym, ◌∙◌, option_to_list, common_steps}
 use Rattle.nccheck_laws.proofs.StrictHeaders.{strict-headers}
 use Rattle.nc_report.specs.declared.finding.Fact.TheVariants as fact
 use Rattle.nccheck_laws.proofs.FaultFindings.{fault-fact}
@@ -8,13 +8,6 @@ use Rattle.nccheck_laws.proofs.MissingValues.{missing-found}
 use Rattle.nccheck_laws.proofs.QuietRules.{is_layout, is_odd, fewer, plain-names, plain-attributes, plain-vsizes}
 
 -- ---- the header of a listing
-
--- what these bytes spell is what was read
-is-read : (bytes rest : Bytes) (o : Result Header FormatFault) (h : Header) (after : Bytes) → IsOutcome bytes rest o
-    → run (header_by lenient) bytes ≡ Ok (h, after)
-    → (o ≡ Ok h) × (rest ≡ after)
-is-read bytes rest (Ok x) h after told read = grind (arith, reads)
-is-read bytes rest (Err fault) h after told read = grind (arith, stops)
 
 pub whole-header : (l : Listing) (h : Header) → l.header ≡ Ok h
     → whole_findings l ≡ layout_facts (layout_of h l.end l.file_len) (indexed l.entries)
@@ -33,11 +26,7 @@ same-layout h header_end file_len = grind (arith, same-slots)
 -- the header that is listed, and where it ends
 pub read-header : (bytes : Bytes) (r : Report) (h : Header) (rest : Bytes) → IsReport bytes r → SpellsHeader bytes h rest
     → (r.listing.header ≡ Ok (without_values h)) × (r.listing.end + length rest ≡ length bytes)
-read-header bytes r h rest report spelled =
-    let l = r.listing in
-    let read = is-read bytes report.listing.rest l.header (without_values h) rest report.listing.header
-    (reads (header_by lenient) bytes (without_values h) rest (strict-headers bytes h rest spelled).0) in
-    (read.0, subst (λ rest. l.end + length rest ≡ length bytes) read.1 report.listing.end)
+read-header bytes r h rest report spelled = grind (arith, common_steps, reads, strict-headers, stops)
 
 -- ---- findings at fields
 
@@ -51,22 +40,8 @@ other-fields i [] = refl
 other-fields i (e ∷ es) =
     grind (arith, list_any-append, other-facts (field_at i e) e.fault e.place.name e.size e.content, other-fields (i + 1) es)
 
-not-layout : (x : Fact) → is_odd x ≡ false → is_layout x ≡ false
-not-layout x plain = grind arith
-
 no-layout : (fs : List Finding) → has_any is_odd fs ≡ false → has_any is_layout fs ≡ false
-no-layout fs plain = fewer is_odd is_layout not-layout fs plain
-
-other-floating : (o : Option Indexed) → has_any is_layout (option_to_list (option_map (λ f. finding f (fact.Fault FloatingType)) o)) ≡ false
-other-floating v0 = grind arith
-
-other-header : (es : List Entry) → has_any is_layout (header_findings es) ≡ false
-unfolding header_findings field_findings floating_findings
-other-header es =
-    let fs = indexed es in
-    let names = no-layout (name_findings fs) (plain-names fs) in
-    let attributes = no-layout (attribute_findings fs) (plain-attributes fs) in
-    grind (arith, list_any-append, other-fields 0 es, other-floating)
+no-layout fs plain = fewer is_odd is_layout (λ x none. grind arith) fs plain
 
 -- ---- findings about the layout
 
@@ -81,25 +56,19 @@ pub record IsOfLayout (test : Fact → Bool) (kind : LayoutFact → Bool) : Type
   pub agree : (x : LayoutFact) → test (fact.Layout x) ≡ kind x
   pub other : (x : Fact) → is_layout x ≡ false → test x ≡ false
 
-other-layout : (kind : LayoutFact → Bool) (x : Fact) → is_layout x ≡ false → is_of_layout kind x ≡ false
-other-layout kind x other = grind arith
-
-other-missing : (x : Fact) → is_layout x ≡ false → is_missing x ≡ false
-other-missing x other = grind arith
-
 pub of-layout : (kind : LayoutFact → Bool) → IsOfLayout (is_of_layout kind) kind
-of-layout kind = record { agree = λ x. refl; other = other-layout kind }
+of-layout kind = record { agree = λ x. refl; other = λ x other. grind arith }
 
 pub of-missing : IsOfLayout is_missing is_of_missing
-of-missing = record { agree = λ x. refl; other = other-missing }
+of-missing = record { agree = λ x. refl; other = λ x other. grind arith }
 
 listing-tells : (test : Fact → Bool) (kind : LayoutFact → Bool) → IsOfLayout test kind → (l : Listing) (h : Header) → l.header ≡ Ok h
     → has_any test (all_findings l) ≡ finds kind (layout_of h l.end l.file_len)
-unfolding all_findings
+unfolding all_findings header_findings field_findings floating_findings
 listing-tells test kind of l h same =
     let fs = indexed l.entries in
     let layout = layout_of h l.end l.file_len in
-    let header = fewer is_layout test of.other (header_findings l.entries) (other-header l.entries) in
+    let header = fewer is_layout test of.other (header_findings l.entries) (grind (arith, common_steps, list_any-append, plain-names, plain-attributes, other-fields, no-layout)) in
     let sizes = vsize_findings layout fs in
     let vsizes = fewer is_layout test of.other sizes (no-layout sizes (plain-vsizes layout fs)) in
     let facts = all-located test kind of.agree fs (layout_findings layout) in

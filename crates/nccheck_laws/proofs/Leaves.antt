@@ -1,5 +1,5 @@
 -- Parts that are one field: a number of bytes, whose value is decoded.
-use Rattle.nccheck_laws.proofs.Prelude.{FormatFault, Bytes, Step, Part, done, bytes, decoded, under, chain, Spells, Outcome, and_then, run, reads, fields, fault_in, HeaderTruncated, with_rest, IsField, bytes-field, decoded-field, ◌≡◌, ℕ, Bool, true, false, cond, leb, List, [], ◌∷◌, length, take, drop, None, Result, Ok, Err, refl, sym, ap, ◌∙◌, arith}
+use Rattle.nccheck_laws.proofs.Prelude.{FormatFault, Bytes, Step, Part, done, bytes, decoded, under, chain, Spells, Outcome, and_then, run, reads, fields, fault_in, HeaderTruncated, with_rest, IsField, bytes-field, decoded-field, ◌≡◌, ℕ, Bool, true, false, cond, leb, List, [], ◌∷◌, length, take, drop, None, Result, Ok, Err, refl, sym, ap, ◌∙◌, arith, common_steps}
 
 abbrev pub is_leaf : {A : Type 0} → Part A → Bool
 is_leaf (bytes n cut) = true
@@ -47,9 +47,7 @@ leaf-run (chain get p next) from leaf = absurd cc
 pub leaf-field : {A : Type 0} (p : Part A) → is_leaf p ≡ true → IsField (leaf_size p) p
 leaf-field (bytes n cut) leaf = bytes-field n cut
 leaf-field (decoded decode encode p) leaf = decoded-field decode encode p (leaf_size p) (leaf-field p leaf)
-leaf-field (done x) leaf = absurd cc
-leaf-field (under step p) leaf = absurd cc
-leaf-field (chain get p next) leaf = absurd cc
+leaf-field p leaf = absurd cc
 
 -- such a part that spells a value is one field without a fault, of whose bytes the value is made
 pub record IsLeafOf {A : Type 0} (steps : List Step) (p : Part A) (from : Bytes) (y : A) : Type 0 where
@@ -58,13 +56,4 @@ pub record IsLeafOf {A : Type 0} (steps : List Step) (p : Part A) (from : Bytes)
 
 pub leaf-spelled : {A : Type 0} (steps : List Step) (p : Part A) (from : Bytes) (y : A) (rest : Bytes) → is_leaf p ≡ true
     → Spells p from y rest → IsLeafOf steps p from y
-leaf-spelled {A = A} steps p from y rest leaf s =
-    let read = reads p from y rest s in
-    record {
-      listed = leaf-field p leaf steps from
-          ∙ ap (λ o. record { steps = steps; start = from; size = leaf_size p; fault = fault_in o } ∷ []) read;
-      is = by-test (leb (leaf_size p) (length from)) (judge p (take (leaf_size p) from)) (sym (leaf-run p from leaf) ∙ read);
-    }
-  where
-    by-test : (b : Bool) (x : Result A FormatFault) → read_bytes b (drop (leaf_size p) from) (leaf_cut p) x ≡ Ok (y, rest) → x ≡ Ok y
-    by-test b x e = grind arith
+leaf-spelled {A = A} steps p from y rest leaf s = grind (arith, common_steps, reads, fault_in, leaf-run, leaf-field)

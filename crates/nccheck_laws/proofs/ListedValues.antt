@@ -36,9 +36,6 @@ is_error severity = false
 abbrev tells_error : Fact → Bool
 tells_error fact = is_error (severity_of (kind_of fact))
 
-error-fault : (fault : FormatFault) → is_floating_fault fault ≡ false → tells_error (Fault fault) ≡ true
-error-fault v0 plain = grind arith
-
 own-error : (i : ℕ) (e : Entry) (o : Option FormatFault) (fault : FormatFault) → o ≡ Some fault → tells_error (fault_fact fault e.content) ≡ true
     → has_any tells_error (map (finding (field_at i e)) (facts_with o e.place.name e.size e.content)) ≡ true
 own-error i e o fault is error = rw is (grind arith)
@@ -51,7 +48,7 @@ finds-error len i [] (f ∷ fs) fault same h plain = absurd cc
 finds-error len i (e ∷ es) [] fault same h plain = absurd cc
 finds-error len i (e ∷ es) (f ∷ fs) fault same (inl is) plain =
     let first : seen_by e ≡ seen len f = cc in
-    let error = fault-fact (λ x. tells_error x ≡ true) fault e.content refl refl refl (error-fault fault plain) in
+    let error = fault-fact (λ x. tells_error x ≡ true) fault e.content refl refl refl (grind arith) in
     first-told (λ f. tells_error f.fact) (findings_at (field_at i e)) (flat_map findings_at (indexed_from (i + 1) es))
     (own-error i e e.fault fault (ap (λ (s : Seen). s.fault) first ∙ is) error)
 finds-error len i (e ∷ es) (f ∷ fs) fault same (inr h) plain =
@@ -74,11 +71,8 @@ stopped-finds bytes r fault report same =
 
 -- ---- no error
 
-not-error : (severity : Severity) → severity ≢ Error → is_error severity ≡ false
-not-error severity none = grind arith
-
 no-error : (r : Report) → HasNoError r → has_any tells_error r.findings ≡ false
-no-error r none = list_any_none (λ (f : Finding). tells_error f.fact) r.findings (λ k d lt. not-error _ (none k d lt))
+no-error r none = list_any_none (λ (f : Finding). tells_error f.fact) r.findings (λ k d lt. grind (arith, none k d lt))
 
 header-listed : (bytes : Bytes) (r : Report) → IsReport bytes r → HasNoError r → (o : Result Header FormatFault) → r.listing.header ≡ o
     → (h : Header) × (r.listing.header ≡ Ok h)
@@ -86,18 +80,12 @@ header-listed bytes r report none (Ok h) same = (h, same)
 header-listed bytes r report none (Err fault) same =
     absurd (let never = sym (no-error r none) ∙ stopped-finds bytes r fault report same in cc)
 
-no-missing : (x : Fact) → tells_error x ≡ false → is_missing x ≡ false
-no-missing x plain = grind arith
-
-no-shared : (x : Fact) → tells_error x ≡ false → is_of_layout is_of_shared_bytes x ≡ false
-no-shared x plain = grind arith
-
 pub values-had : ReportsWithoutErrorsHaveValues
 values-had bytes r report none =
     let listed = header-listed bytes r report none r.listing.header refl in
     let h = listed.0 in
-    let missing = fewer tells_error is_missing no-missing r.findings (no-error r none) in
-    let shared = fewer tells_error (is_of_layout is_of_shared_bytes) no-shared r.findings (no-error r none) in
+    let missing = fewer tells_error is_missing (λ x plain. grind arith) r.findings (no-error r none) in
+    let shared = fewer tells_error (is_of_layout is_of_shared_bytes) (λ x plain. grind arith) r.findings (no-error r none) in
     let slabs = apart-listed bytes r h report listed.1 shared in (
       h,
       listed.1,

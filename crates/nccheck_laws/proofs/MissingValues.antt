@@ -37,12 +37,9 @@ all-present h bytes header_end sound within =
 
 -- ---- tests
 
-not-some : (o : Option ℕ) → is_some o ≡ false → o ≡ None
-not-some o none = grind arith
-
 pub none-lack : (h : Header) (bytes : Bytes) (vars : List Var) → list_any (lacks_values h bytes) vars ≡ false → All (HasAll h bytes) vars
 none-lack h bytes [] none = All-nil _
-none-lack h bytes (var ∷ vars) none = grind (arith, none-lack h bytes vars, All-cons, not-some)
+none-lack h bytes (var ∷ vars) none = grind (arith, none-lack h bytes vars, All-cons)
 
 pub all-have : (h : Header) (bytes : Bytes) (vars : List Var) → All (HasAll h bytes) vars → list_any (lacks_values h bytes) vars ≡ false
 all-have h bytes vars all = list_any_none (lacks_values h bytes) vars (λ k d lt. ap is_some (all k d lt))

@@ -4,30 +4,17 @@ use Rattle.nccheck_laws.proofs.Prelude.{common_steps, Bytes, is_name, may_be_nam
 abbrev is_printing : Bytes → Bool
 is_printing bs = list_all is_no_control bs
 
-begins : (b : ℕ) → may_begin_name b ≡ true → is_no_control b ≡ true
-begins b e = grind arith
-
-follows : (b : ℕ) → may_follow_in_name b ≡ true → is_no_control b ≡ true
-follows b e = grind arith
-
 all-follow : (bs : Bytes) → list_all may_follow_in_name bs ≡ true → is_printing bs ≡ true
 all-follow [] e = refl
-all-follow (b ∷ bs) e = grind (arith, follows, all-follow bs)
-
-not-nul : (b : ℕ) → is_no_control b ≡ true → not (b == 0) ≡ true
-not-nul b e = grind arith
+all-follow (b ∷ bs) e = grind (arith, all-follow bs)
 
 no-nul : (bs : Bytes) → is_printing bs ≡ true → take_while (λ b. not (b == 0)) bs ≡ bs
 no-nul [] e = refl
-no-nul (b ∷ bs) e = grind (arith, common_steps, no-nul bs, take_while-cons, not-nul)
-
-by-parts : (n : ℕ) (front back : Bytes) → nat_lt 0 n ≡ true → is_printing front ≡ true → back ≡ []
-    → (nat_lt 0 n && is_printing front && list_all (λ b. b == 0) back) ≡ true
-by-parts n front back some printing none = cc
+no-nul (b ∷ bs) e = grind (arith, common_steps, no-nul bs, take_while-cons)
 
 printing-may-be : (name : Bytes) → nat_lt 0 (length name) ≡ true → is_printing name ≡ true → may_be_name name ≡ true
-printing-may-be name some e = grind (arith, common_steps, no-nul, by-parts)
+printing-may-be name some e = grind (arith, common_steps, no-nul)
 
 pub name-may-be : (bs : Bytes) → is_name bs ≡ true → may_be_name bs ≡ true
 name-may-be [] e = absurd cc
-name-may-be (b ∷ bs) e = printing-may-be (b ∷ bs) (grind arith) (grind (arith, begins, all-follow))
+name-may-be (b ∷ bs) e = printing-may-be (b ∷ bs) (grind arith) (grind (arith, all-follow))

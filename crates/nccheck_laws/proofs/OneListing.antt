@@ -25,15 +25,10 @@ entries-of file_len [] p = ([], refl)
 entries-of file_len (f ∷ fs) p =
     let s = seen file_len f in
     let e : Entry = record { place = p.0.0; offset = s.offset; size = s.size; content = s.content; fault = s.fault } in
-    let first : seen_by e ≡ s = same-seen (steps_of e.place) f.steps s.offset s.size s.content s.fault p.0.1 in
+    let first : seen_by e ≡ s =
+    ap (λ (x : List Step). record { steps = x; offset = s.offset; size = s.size; content = s.content; fault = s.fault }) p.0.1 in
     let others = entries-of file_len fs p.1 in
     (e ∷ others.0, ap₂ (λ x xs. x ∷ xs) first others.1)
-  where
-    same-seen : (steps other : List Step) (offset size : ℕ) (c : Content) (o : Option FormatFault) → steps ≡ other
-        → (let one : Seen = record { steps = steps; offset = offset; size = size; content = c; fault = o } in
-        let two : Seen = record { steps = other; offset = offset; size = size; content = c; fault = o } in
-        one ≡ two)
-    same-seen steps other offset size c o same = cc
 
 -- ---- outcomes
 
@@ -54,8 +49,7 @@ rest-left v0 = grind arith
 
 outcome-told : (bytes rest : Bytes) (r : Result Header FormatFault) → IsOutcome bytes rest r
     → run (header_by lenient) bytes ≡ with_rest r rest
-outcome-told bytes rest (Ok h) is = reads (header_by lenient) bytes h rest is
-outcome-told bytes rest (Err fault) is = stops (header_by lenient) bytes fault rest is
+outcome-told bytes rest v2 is = grind (arith, reads, stops)
 
 same-outcome : (r s : Result Header FormatFault) (rest more : Bytes) → with_rest r rest ≡ with_rest s more → (r ≡ s) × (rest ≡ more)
 same-outcome v0 v1 rest more same = grind arith

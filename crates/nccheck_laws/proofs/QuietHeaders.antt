@@ -42,12 +42,7 @@ AreSizes h k ns = (i m n : ℕ) → slice_get ns i ≡ Some n → m ≡ k + i �
 
 sizes-more : (h : Header) (k x : ℕ) (ns : List ℕ) → IsWrittenVsize h k x → AreSizes h (k + 1) ns → AreSizes h k (x ∷ ns)
 unfolding AreSizes
-sizes-more h k x ns first others zero m n there at =
-    let same : x ≡ n = cc in let here : k ≡ m = omega arith in subst (λ i. IsWrittenVsize h i n) here (subst (IsWrittenVsize h k) same first)
-sizes-more h k x ns first others (suc i) m n there at = others i m n there (omega arith)
-
-not-sized : (h : Header) (steps : List Step) (f : Field) → is_vsize_at steps ≡ false → IsSized h steps f
-not-sized h steps f is = grind arith
+sizes-more h k x ns first others v5 m n there at = grind (arith, first, λ (i : ℕ). others i m n)
 
 sizes-sized : (h : Header) (k : ℕ) (fs : List Field) → AreNumbered k fs → AreSizes h k (sizes_of fs) ↔ AreSized h fs
 unfolding AreSizes
@@ -64,7 +59,7 @@ sizes-sized h k (f ∷ fs) at = by-test (is_vsize_at f.steps) refl at (λ k at. 
       ),
       λ are. sizes-more h k _ (sizes_of fs) (subst (λ steps. IsSized h steps f) at.0 are.0) ((go (k + 1) at.1).1 are.1),
     )
-    by-test false is at go = (λ are. (not-sized h f.steps f is, (go k at).0 are), λ are. (go k at).1 are.1)
+    by-test false is at go = (λ are. (grind arith), λ are. (go k at).1 are.1)
 
 -- ---- what is found at them
 
@@ -160,10 +155,7 @@ spelling-quiet bytes r h rest report s =
     )
 
 pub quiet-spellings : QuietSpellingsAreCanonical
-quiet-spellings from r h rest are report s quiet =
-    let whole = spelled-whole [] (header_by lenient) from (without_values h) rest (strict-headers from h rest s).0 in
-    let shown = (spelling-quiet from r h rest report s).0 quiet in
-    written-fields from h rest are s (are-written h (header_fields from) whole shown.0 shown.1)
+quiet-spellings from r h rest are report s quiet = grind (arith, common_steps, strict-headers, written-fields, spelled-whole, are-written, spelling-quiet)
 
 pub canonical-quiet : CanonicalSpellingsAreQuiet
 canonical-quiet bytes r h rest report s is =

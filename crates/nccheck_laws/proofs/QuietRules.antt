@@ -26,16 +26,11 @@ pub fewer : (test other : Fact → Bool) → ((x : Fact) → test x ≡ false �
 fewer test other is [] none = refl
 fewer test other is (f ∷ fs) none = grind (arith, is f.fact, fewer test other is fs)
 
--- a test that no name that is there twice passes
-name-fails : (test : Fact → Bool) → ((n : ℕ) → test (fact.DuplicateName n) ≡ false) → (earlier : List Indexed) (f : Indexed)
-    → has_any test (option_to_list (duplicate_name earlier f)) ≡ false
-name-fails test never earlier f = grind arith
-
 pub names-fail : (test : Fact → Bool) → ((n : ℕ) → test (fact.DuplicateName n) ≡ false) → (earlier fs : List Indexed)
     → has_any test (each_after duplicate_name earlier fs) ≡ false
 names-fail test never earlier [] = refl
 names-fail test never earlier (f ∷ fs) =
-    grind (arith, list_any-append, name-fails test never earlier f, names-fail test never (earlier ++ f ∷ []) fs)
+    grind (arith, list_any-append, names-fail test never (earlier ++ f ∷ []) fs)
 
 pub plain-names : (fs : List Indexed) → ArePlain (name_findings fs)
 unfolding name_findings
@@ -62,9 +57,6 @@ pub plain-vsizes : (layout : FileLayout) (fs : List Indexed) → ArePlain (vsize
 unfolding vsize_findings
 plain-vsizes layout fs =
     each-quiet _ _ 0 layout.slots (λ k m x at is. plain-vsize layout.version (padded_slab x) (slice_get (named is_vsize fs) m))
-
-quiet-located : (fs : List Indexed) (l : LayoutFinding) → is_fault (located fs l).fact ≡ false
-quiet-located fs l = grind arith
 
 -- ---- faults
 
@@ -95,15 +87,12 @@ whole-lie Q l = by-header l.header
         let layout = layout_of h l.end l.file_len in
         let fs = indexed l.entries in
         All-append (FaultsLieAt Q) _ _ (plain-lie Q _ (plain-vsizes layout fs))
-        (All-map (FaultsLieAt Q) (located fs) (layout_findings layout) (λ k x lt. never-lies Q (located fs _) (quiet-located fs _)))
-
-entry-lies : (Q : ℕ → Type 0) (i : ℕ) (e : Entry) → RefusedLiesAt Q e → All (FaultsLieAt Q) (findings_at (field_at i e))
-entry-lies v0 i e v3 = grind arith
+        (All-map (FaultsLieAt Q) (located fs) (layout_findings layout) (λ k x lt. never-lies Q (located fs _) (grind arith)))
 
 fields-lie : (Q : ℕ → Type 0) (i : ℕ) (es : List Entry) → ((e : Entry) → Contains es e → RefusedLiesAt Q e)
     → All (FaultsLieAt Q) (flat_map findings_at (indexed_from i es))
 fields-lie Q i [] lies = All-nil (FaultsLieAt Q)
-fields-lie Q i (e ∷ es) lies = grind (arith, fields-lie Q (i + 1) es (λ x has. lies x (Contains-append_right (e ∷ []) es x has)), All-append, entry-lies, contains-here, Contains-append_right)
+fields-lie Q i (e ∷ es) lies = grind (arith, fields-lie Q (i + 1) es (λ x has. lies x (Contains-append_right (e ∷ []) es x has)), All-append, contains-here, Contains-append_right)
 
 floating-lies : (Q : ℕ → Type 0) (i : ℕ) (es : List Entry) → ((e : Entry) → Contains es e → RefusedLiesAt Q e)
     → All (FaultsLieAt Q) (option_to_list (floating_finding (indexed_from i es)))

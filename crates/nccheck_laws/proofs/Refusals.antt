@@ -1,5 +1,5 @@
 -- The first entry of a listing that the strict rules refuse.
-use Rattle.nccheck_laws.proofs.Prelude.{All-nil, All-cons, FormatFault, Bytes, Step, Entry, Field, seen, Seen, seen_by, steps_of, whole_content, refusal_in, first_refusal, Magic, cut_content, length-drop, refusal, le_trans, ◌≡◌, ℕ, ◌-◌, ◌≤◌, Bool, true, false, cond, nat_lt, List, [], ◌∷◌, ◌++◌, length, map, drop, Option, Some, None, refl, sym, ap, ◌∙◌, subst, arith, All}
+use Rattle.nccheck_laws.proofs.Prelude.{All-nil, All-cons, FormatFault, Bytes, Step, Entry, Field, seen, Seen, seen_by, steps_of, whole_content, refusal_in, first_refusal, Magic, cut_content, length-drop, refusal, le_trans, ◌≡◌, ℕ, ◌-◌, ◌≤◌, Bool, true, false, cond, nat_lt, List, [], ◌∷◌, ◌++◌, length, map, drop, Option, Some, None, refl, sym, ap, ◌∙◌, subst, arith, All, common_steps}
 use Rattle.nccheck_laws.proofs.Agreement.{first_of}
 use Rattle.nccheck_laws.proofs.FieldOrder.{Descend}
 
@@ -11,17 +11,7 @@ refusal_of e = refusal_in e.size e.content (steps_of e.place) e.fault
 
 same-refusal : (len : ℕ) (f : Field) (e : Entry) → seen_by e ≡ seen len f → refusal_of e ≡ refusal f
 unfolding seen
-same-refusal len f e is = ap (λ (s : Seen). refusal_in s.size s.content s.steps s.fault) is ∙ by-test (nat_lt (length f.start) f.size)
-  where
-    cut-refusal : (steps : List Step) → refusal_in f.size (cut_content steps f.start) steps f.fault ≡ f.fault
-    cut-refusal (Magic ∷ steps) = refl
-    cut-refusal steps = refl
-
-    by-test : (b : Bool)
-        → refusal_in f.size (cond b (cut_content f.steps f.start) (whole_content f.steps f.size f.start)) f.steps f.fault
-        ≡ cond b f.fault (refusal_in f.size (whole_content f.steps f.size f.start) f.steps f.fault)
-    by-test true = cut-refusal f.steps
-    by-test false = refl
+same-refusal len f e is = grind (arith, common_steps)
 
 same-offset : (len : ℕ) (f : Field) (e : Entry) → seen_by e ≡ seen len f → e.offset ≡ len - length f.start
 unfolding seen
@@ -38,9 +28,7 @@ pub none-refused : (len : ℕ) (fs : List Field) (es : List Entry) → AreEntrie
     → All (λ (e : Entry). refusal_of e ≡ None) es
 none-refused len fs [] is none = All-nil (λ (e : Entry). refusal_of e ≡ None)
 none-refused len [] (e ∷ es) is none = absurd cc
-none-refused len (f ∷ fs) (e ∷ es) is none =
-    All-cons (λ (e : Entry). refusal_of e ≡ None) e es (let same = same-refusal len f e (cc) in grind arith)
-    (none-refused len fs es (cc) (grind arith))
+none-refused len (f ∷ fs) (e ∷ es) is none = grind (arith, common_steps, same-refusal, none-refused len fs es (cc) (grind arith))
 
 -- entries after a field begin after it
 later : (len top bottom : ℕ) (fs : List Field) (es : List Entry) → AreEntriesOf len fs es → Descend top bottom fs
@@ -67,13 +55,6 @@ pub record FirstRefused (len : ℕ) (es : List Entry) (fault : FormatFault) (res
   pub refused : refusal_of entry ≡ Some fault
   pub after : All (λ (e : Entry). entry.offset ≤ e.offset) back
   pub ends : Ends len entry rest
-
-ends-at : (len : ℕ) (f : Field) (e : Entry) → seen_by e ≡ seen len f → length f.start ≤ len → Ends len e (drop f.size f.start)
-unfolding seen
-ends-at len f e is within =
-    let offset = same-offset len f e is in
-    let size = ap (λ (s : Seen). s.size) is in
-    record { within = omega (arith, offset); left = omega (arith, offset, size, within, length-drop f.size f.start) }
 
 by-refusal : (len : ℕ) (f : Field) (e : Entry) (es : List Entry) (fault : FormatFault) (rest : Bytes) (o : Option FormatFault)
     (others : Option (FormatFault × Bytes)) → refusal_of e ≡ o → first_of f o others ≡ Some (fault, rest)
@@ -106,6 +87,7 @@ by-refusal len f e es fault rest None others is refused after ends go =
 
 pub first-refused : (len top bottom : ℕ) (fs : List Field) (es : List Entry) (fault : FormatFault) (rest : Bytes) → AreEntriesOf len fs es
     → top ≤ len → Descend top bottom fs → first_refusal fs ≡ Some (fault, rest) → FirstRefused len es fault rest
+unfolding seen
 first-refused len top bottom [] es fault rest is le d refused = absurd cc
 first-refused len top bottom (f ∷ fs) [] fault rest is le d refused = absurd cc
 first-refused len top bottom (f ∷ fs) (e ∷ es) fault rest is le d refused =
@@ -115,5 +97,5 @@ first-refused len top bottom (f ∷ fs) (e ∷ es) fault rest is le d refused =
     by-refusal len f e es fault rest (refusal f) (first_refusal fs) (same-refusal len f e same) refused
     (subst (λ n. All (λ (x : Entry). n ≤ x.offset) es) (sym (same-offset len f e same))
     (later len (length f.start) bottom fs es others d.1))
-    (ends-at len f e same within)
+    (grind (arith, common_steps, length-drop, same-offset))
     (first-refused len (length f.start) bottom fs es fault rest others within d.1)

@@ -13,17 +13,14 @@ number : (i k : ℕ) → nat_cmp i k ≡ Equal → i ≡ k
 number i k e = ranked i k Equal (sym e)
 
 both : (r s : Ordering) → ordering_then r s ≡ Equal → (r ≡ Equal) × (s ≡ Equal)
-both Less s e = cc
-both Equal s e = (refl, e)
-both Greater s e = cc
+both v0 s e = (grind arith, grind arith)
 
 option : (o p : Option ℕ) → option_cmp nat_cmp o p ≡ Equal → o ≡ p
 option v0 v1 e = grind (arith, number)
 
 -- what is told apart by an order isn't the same
 apart : {A : Type 0} (r : Ordering) → is_eq r ≡ false → r ≡ Equal → A
-apart Equal told e = cc
-apart r told e = cc
+apart v0 told e = absurd (grind arith)
 
 -- ---- facts
 

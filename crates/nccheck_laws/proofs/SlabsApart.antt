@@ -44,7 +44,7 @@ each-pairs R f i (x ∷ xs) own across =
 -- ---- places in the record
 
 -- record r ends before record q begins
-next-record : (r q size : ℕ) → r < q → r * size + size ≤ q * size
+pub next-record : (r q size : ℕ) → r < q → r * size + size ≤ q * size
 next-record r q size lt = grind arith
 
 -- a slab of a record slot lies in its record

@@ -1,5 +1,5 @@
 -- What is found about the spelling at whole fields: that of what fills one up a byte isn't 0, and that a list has its own tag and no elements.
-use Rattle.nccheck_laws.proofs.Prelude.{list_any-append, nat_tests, ltb-false, option_map, Header, FormatFault, FloatingType, Bytes, Step, Padding, Tag, Vsize, Item, Content, Entry, FieldName, Owner, Field, seen_by, steps_of, name_steps, owner_steps, whole_content, seen, bytes_of, number_of, IsWritten, IsWrittenVsize, AreWritten, Fact, Finding, Indexed, field_at, indexed_from, indexed, finding, each_before, ahead_of, finding_by_name, attribute_finding, is_first, facts_with, field_findings, attribute_findings, floating_findings, name_findings, header_findings, is_of_spelling, has_any, is_field, next_number, number_in, empty_list, has_nonzero, content_facts, Ahead, type_finding, name_finding, fact_if, IsWrittenTag, ◌≡◌, ℕ, ◌+◌, ◌==◌, ◌&&◌, ◌||◌, not, Bool, false, List, [], ◌∷◌, ◌++◌, length, map, replicate, Option, None, refl, ap, ◌∙◌, arith, length-take-le, if◌then◌else◌, option_to_list}
+use Rattle.nccheck_laws.proofs.Prelude.{list_any-append, nat_tests, ltb-false, option_map, Header, FormatFault, FloatingType, Bytes, Step, Padding, Tag, Vsize, Item, Content, Entry, FieldName, Owner, Field, seen_by, steps_of, name_steps, owner_steps, whole_content, seen, bytes_of, number_of, IsWritten, IsWrittenVsize, AreWritten, Fact, Finding, Indexed, field_at, indexed_from, indexed, finding, each_before, ahead_of, finding_by_name, attribute_finding, is_first, facts_with, field_findings, attribute_findings, floating_findings, name_findings, header_findings, is_of_spelling, has_any, is_field, next_number, number_in, empty_list, has_nonzero, content_facts, Ahead, type_finding, name_finding, fact_if, IsWrittenTag, ◌≡◌, ℕ, ◌+◌, ◌==◌, ◌&&◌, ◌||◌, not, Bool, false, List, [], ◌∷◌, ◌++◌, length, map, replicate, Option, None, refl, ap, ◌∙◌, arith, length-take-le, if◌then◌else◌, option_to_list, common_steps}
 use Rattle.nc_fields.specs.declared.entry.Content.TheVariants as content
 use Rattle.nc_report.specs.declared.finding.Fact.TheVariants as fact
 use Rattle.nccheck_laws.proofs.QuietRules.{names-fail}
@@ -21,15 +21,12 @@ pub data AreOf : List Entry → List Field → Type 0 where
   none : AreOf [] []
   more : {e : Entry} {f : Field} {es : List Entry} {fs : List Field} → IsOf e f → AreOf es fs → AreOf (e ∷ es) (f ∷ fs)
 
-is-of : (len : ℕ) (e : Entry) (f : Field) → IsWhole f → seen_by e ≡ seen len f → IsOf e f
-unfolding seen
-is-of len e f whole same = grind arith
-
 pub are-of : (len : ℕ) (es : List Entry) (fs : List Field) → map seen_by es ≡ map (seen len) fs → AreWhole fs → AreOf es fs
+unfolding seen
 are-of len [] [] same whole = none
 are-of len [] (f ∷ fs) same whole = absurd cc
 are-of len (e ∷ es) [] same whole = absurd cc
-are-of len (e ∷ es) (f ∷ fs) same whole = more (is-of len e f whole.0 (cc)) (are-of len es fs (cc) whole.1)
+are-of len (e ∷ es) (f ∷ fs) same whole = more (grind arith) (are-of len es fs (cc) whole.1)
 
 -- ---- what is odd
 
@@ -61,32 +58,14 @@ fact-none : (g : Indexed) (b : Bool) (x : Fact) (others : List Fact) → is_of_s
     → any_spelling (map (finding g) (option_to_list (fact_if b x) ++ others)) ≡ any_spelling (map (finding g) others)
 fact-none g v1 x others is = grind arith
 
-last-none : (g : Indexed) (b : Bool) (x : Fact) → is_of_spelling x ≡ false
-    → any_spelling (map (finding g) (option_to_list (fact_if b x))) ≡ false
-last-none g v1 x is = grind arith
-
-padding-found : (g : Indexed) (b : Bool) → any_spelling (map (finding g) (option_to_list (fact_if b fact.Padding) ++ [])) ≡ b
-padding-found g v1 = grind arith
-
-facts-odd : (place : FieldName) (o : Owner) (size : ℕ) (g : Indexed) (f : Field)
-    → any_spelling (map (finding g) (content_facts place size (whole_content (name_steps place ++ owner_steps o) f.size f.start)))
-    ≡ odd_padding (name_steps place ++ owner_steps o) f
-facts-odd v0 o size g f = grind (arith, fact-none, last-none, padding-found)
-
 found-odd : (place : FieldName) (o : Owner) (size : ℕ) (g : Indexed) (f : Field) (fault : Option FormatFault) (c : Content) → fault ≡ None
     → c ≡ whole_content (name_steps place ++ owner_steps o) f.size f.start
     → any_spelling (map (finding g) (facts_with fault place size c)) ≡ odd_padding (name_steps place ++ owner_steps o) f
-found-odd place o size g f fault c sound is = rw (sound, is) (facts-odd place o size g f)
+found-odd place o size g f fault c sound is = rw (sound, is) (grind (arith, fact-none))
 
 choice-none : (b : Bool) (o : Option Finding) → any_spelling (option_to_list o) ≡ false
     → any_spelling (option_to_list (if b then o else None)) ≡ false
 choice-none v0 o is = grind arith
-
-type-none : (c : Content) (ahead : Ahead) → any_spelling (option_to_list (type_finding c ahead)) ≡ false
-type-none v0 ahead = grind arith
-
-name-none : (first : Bool) (c : Content) (ahead : Ahead) → any_spelling (option_to_list (name_finding first c ahead)) ≡ false
-name-none first c ahead = grind arith
 
 count-odd : (tag : ℕ) (g : Indexed) (i offset : ℕ) (c : Content)
     → any_spelling (option_to_list (empty_list g (content.Number tag) (number_in i offset c))) ≡ odd_count tag c
@@ -95,15 +74,13 @@ count-odd tag g i offset v4 = grind arith
 tag-odd : (tag : ℕ) (g : Indexed) (k : ℕ) {es : List Entry} {fs : List Field} → AreOf es fs
     → any_spelling (option_to_list (empty_list g (content.Number tag) (next_number is_field (indexed_from k es)))) ≡ odd_tag tag fs
 tag-odd tag g k none = refl
-tag-odd tag g k (more {e = e} {f = f} is rest) =
-    count-odd tag g k e.offset e.content
-    ∙ ap (odd_count tag) (is.content ∙ ap (λ steps. whole_content steps f.size f.start) is.steps)
+tag-odd tag g k (more {e = e} {f = f} is rest) = grind (arith, common_steps, count-odd)
 
 list-odd : (first : Bool) (place : FieldName) (o : Owner) (g : Indexed) (k : ℕ) (es : List Entry) (f : Field) (fs : List Field)
     → AreOf es fs → g.entry.content ≡ whole_content (name_steps place ++ owner_steps o) f.size f.start
     → any_spelling (option_to_list (finding_by_name first place g (ahead_of (indexed_from k es))))
     ≡ odd_list (name_steps place ++ owner_steps o) f fs
-list-odd first place o g k es f fs are is = grind (arith, tag-odd, choice-none, type-none, name-none)
+list-odd first place o g k es f fs are is = grind (arith, tag-odd, choice-none)
 
 -- ---- what is found at all of them
 
@@ -120,12 +97,9 @@ fields-odd all k (more {e = e} {f = f} {es = es} {fs = fs} is rest) =
     ∙ ap (λ steps. odd_list steps f fs) is.steps in
     grind (arith, list_any-append, fields-odd all (k + 1) rest)
 
-floating-none : (o : Option Indexed) → any_spelling (option_to_list (option_map (λ f. finding f (fact.Fault FloatingType)) o)) ≡ false
-floating-none v0 = grind arith
-
 pub header-odd : (es : List Entry) (fs : List Field) → AreOf es fs → any_spelling (header_findings es) ≡ any_odd fs
 unfolding header_findings floating_findings name_findings attribute_findings
-header-odd es fs are = grind (arith, list_any-append, fields-odd (indexed es) 0 are, names-fail is_of_spelling (λ n. refl) [] (indexed es), floating-none)
+header-odd es fs are = grind (arith, list_any-append, fields-odd (indexed es) 0 are, names-fail is_of_spelling (λ n. refl) [] (indexed es))
 
 -- ---- fields that are as they are written
 
@@ -140,9 +114,7 @@ AreSized h (f ∷ fs) = IsSized h f.steps f × AreSized h fs
 
 all-zeros : (bs : Bytes) → has_nonzero bs ≡ false → bs ≡ replicate (length bs) 0
 all-zeros [] e = refl
-all-zeros (b ∷ bs) e =
-    let zero : b ≡ 0 = grind (arith, nat_tests) in
-    let others = all-zeros bs (grind arith) in rw zero (ap (λ (bs : Bytes). 0 ∷ bs) others)
+all-zeros (b ∷ bs) e = grind (arith, common_steps, nat_tests, all-zeros bs (grind arith))
 
 tag-written : (tag : ℕ) (fs : List Field) → odd_tag tag fs ≡ false → IsWrittenTag tag fs
 tag-written tag v1 e = grind arith

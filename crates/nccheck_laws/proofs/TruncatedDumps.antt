@@ -8,14 +8,10 @@ use Rattle.nccheck_laws.proofs.WholeVariables.{some-values}
 abbrev pub HasBytes : Header → Var → Type 0
 HasBytes h var = 1 ≤ slab_size h.dims var
 
--- only a record variable has no values, and only without records
-no-count : (count n : ℕ) (kind : Bool) → 0 < count → nat_lt 0 (count * (if kind then n else 1)) ≡ false → (kind ≡ true) × (n ≡ 0)
-no-count count n kind some none = grind (arith, ltb-false)
-
 -- a variable without values has no missing one
 no-values : (h : Header) (bytes : Bytes) (var : Var) (n : ℕ) → HasBytes h var → has_values h.dims n var ≡ false
     → first_missing h bytes var n ≡ None
-no-values h bytes var n some none = grind (arith, no-count, some-values, record-whole)
+no-values h bytes var n some none = grind (arith, some-values, record-whole, ltb-false)
 
 -- a dump that ends so has its whole text
 abbrev pub is_whole : Ending → Bool
@@ -34,13 +30,9 @@ section-ends : (says : Ending → Bool) → TellsEndings says → (h : Header) (
 section-ends says tells h bytes n width test all v [] some = refl
 section-ends says tells h bytes n width test all v (var ∷ vars) some = grind (arith, tells, section-ends says tells h bytes n width test all (v + 1) vars (All-tail (HasBytes h) var vars some), no-values, All-head, All-tail, false≢true)
 
--- without options that choose, each variable is selected
-selects-all : (h : Header) (o : Options) → ShowsAllValues o → (var : Var) → is_selected h o var ≡ true
-selects-all h o all var = cc
-
 pub dump-ends : (says : Ending → Bool) → TellsEndings says → (h : Header) (bytes rest : Bytes) (o : Options) (text : Bytes) (ending : Ending)
     → SpellsHeader bytes h rest → All (HasBytes h) h.vars → ShowsAllValues o → IsDump bytes o text ending
     → says ending ≡ (if list_any (lacks_values h bytes) h.vars then not (says whole) else says whole)
 dump-ends says tells h bytes rest o text ending spelled some all (stopped fault end stops) = absurd (header-fine bytes h rest fault end spelled stops)
 dump-ends says tells h bytes rest o text ending spelled some all (unknown k more index s u) = grind arith
-dump-ends says tells h bytes rest o text ending spelled some all (shown k more n section s knows count is) = grind (arith, one-header, section-ends says tells, selects-all)
+dump-ends says tells h bytes rest o text ending spelled some all (shown k more n section s knows count is) = grind (arith, one-header, section-ends says tells)

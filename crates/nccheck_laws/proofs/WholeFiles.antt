@@ -1,5 +1,7 @@
 -- No finding has a kind that stops a dump exactly if the file holds a dataset, and exactly if the dump of all values is whole.
 use Rattle.nccheck_laws.proofs.Prelude.{Var, Bytes, SpellsHeader, strict, spelled-layout, Header, Fact, Finding, Report, IsReport, HasNoFault, is_fault, is_missing, list_any, list_any_none, All-cons, All-head, All-nil, All-tail, IsSoundSlot, file_of, first_missing, concat, Dataset, HoldsDataset, bare, stored_bytes, file-holds, FindsWholeFile, ShowsAllValues, WholeFilesHoldDatasets, WholeReportsAreDumped, GeneratedFilesAreFoundWhole, ◌≡◌, Bool, true, false, not, List, [], ◌∷◌, length, map, None, refl, sym, ap, arith, subst, ◌∙◌, All, if◌then◌else◌}
+use Rattle.std.proofs.Common.{get_or, ◌||◌}
+use Rattle.std.proofs.lemmas.List.Folds.{list_any_at}
 use Rattle.nc_base.specs.Dump.{Options, Ending, whole, IsDump, stopped, unknown, shown}
 use Rattle.nc_base.specs.Sizes.{record_count}
 use Rattle.nc_report.specs.Kinds.{kind_of}
@@ -12,37 +14,22 @@ use Rattle.nccheck_laws.proofs.TruncatedDumps.{TellsEndings, dump-ends, is_whole
 
 -- ---- what stops a dump: a fault, and missing values
 
-no-fault : (x : Fact) → stops_dump (kind_of x) ≡ false → is_fault x ≡ false
-no-fault x none = grind arith
-
-no-missing : (x : Fact) → stops_dump (kind_of x) ≡ false → is_missing x ≡ false
-no-missing x none = grind arith
-
-no-stop : (x : Fact) → is_fault x ≡ false → is_missing x ≡ false → stops_dump (kind_of x) ≡ false
-no-stop x sound there = grind arith
+stops-is : (x : Fact) → stops_dump (kind_of x) ≡ (is_fault x || is_missing x)
+stops-is x = grind arith
 
 none-fault : (r : Report) → FindsWholeFile r → HasNoFault r
-none-fault r found = λ k d lt. no-fault _ (found k d lt)
+none-fault r found = λ k d lt. grind (arith, stops-is (get_or r.findings k d).fact, found k d lt)
 
 none-missing : (r : Report) → FindsWholeFile r → finds_missing r ≡ false
-none-missing r found = list_any_none (λ (f : Finding). is_missing f.fact) r.findings (λ k d lt. no-missing _ (found k d lt))
-
-abbrev NoFault : Finding → Type 0
-NoFault f = is_fault f.fact ≡ false
-
-abbrev NoStop : Finding → Type 0
-NoStop f = stops_dump (kind_of f.fact) ≡ false
-
-none-stop : (fs : List Finding) → All NoFault fs → list_any (λ (f : Finding). is_missing f.fact) fs ≡ false → All NoStop fs
-none-stop [] no_faults no_missing = All-nil NoStop
-none-stop (f ∷ fs) no_faults no_missing =
-    All-cons NoStop f fs (no-stop f.fact (All-head NoFault f fs no_faults) (grind arith))
-    (none-stop fs (All-tail NoFault f fs no_faults) (grind arith))
+none-missing r found =
+    list_any_none (λ (f : Finding). is_missing f.fact) r.findings (λ k d lt. grind (arith, stops-is (get_or r.findings k d).fact, found k d lt))
 
 -- where the header can be read
 read-whole : (bytes : Bytes) (r : Report) (h : Header) (rest : Bytes) → IsReport bytes r → SpellsHeader bytes h rest → finds_missing r ≡ false
     → FindsWholeFile r
-read-whole bytes r h rest report spelled none = none-stop r.findings ((faultless bytes r report).1 (h, rest, spelled)) none
+read-whole bytes r h rest report spelled none = λ k d lt.
+    let sound = (faultless bytes r report).1 (h, rest, spelled) k d lt in
+    grind (arith, stops-is (get_or r.findings k d).fact, list_any_at (λ (f : Finding). is_missing f.fact) r.findings k d lt)
 
 -- ---- datasets
 
@@ -105,19 +92,12 @@ dump-tells bytes r h rest o text ending report spelled all is =
     is-not : (b : Bool) → (if b then false else true) ≡ not b
     is-not b = grind arith
 
-whole-is : (ending : Ending) → is_whole ending ≡ true → ending ≡ whole
-whole-is ending is = grind arith
-
-not-true : (b : Bool) → not b ≡ true → b ≡ false
-not-true b is = grind arith
-
 pub whole-dumped : WholeReportsAreDumped
 whole-dumped bytes r o text ending report all is = (
   λ found.
       let s = (faultless bytes r report).0 (none-fault r found) in
-      whole-is ending (dump-tells bytes r s.0 s.1 o text ending report s.2 all is ∙ ap not (none-missing r found)),
+      grind (arith, dump-tells bytes r s.0 s.1 o text ending report s.2 all is, none-missing r found),
   λ same.
       let s = dump-header bytes o text ending is same in
-      read-whole bytes r s.0 s.1 report s.2
-      (not-true _ (sym (dump-tells bytes r s.0 s.1 o text ending report s.2 all is) ∙ ap is_whole same)),
+      read-whole bytes r s.0 s.1 report s.2 (grind (arith, dump-tells bytes r s.0 s.1 o text ending report s.2 all is)),
 )

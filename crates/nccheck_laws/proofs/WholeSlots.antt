@@ -1,5 +1,5 @@
 -- The slots whose slabs are all whole in the file, the end of the values, and the first slab that isn't whole.
-use Rattle.nccheck_laws.proofs.Prelude.{Contains, lt-ltb, nat_tests, get_or-map-range_with_len, length-map-range_with_len, mul-le-mul_right, Slot, FileLayout, Extent, LayoutFact, Slab, SlabPlace, is_fixed, record_size, record_count, slot_block, records_block, blocks, has_values, values_end, first_slab, is_cut, record_slab, slabs_of, all_slabs, first_cut_slab, end_findings, IsSoundSlot, IsSoundLayout, contains-here, contains-none, contains-cases, contains-filter, filter-contains, greatest_from-above, greatest_from-least, MissingValuesHaveSlab, ◌≡◌, ℕ, ◌+◌, ◌-◌, ◌*◌, ◌<◌, ◌≤◌, Bool, true, false, not, List, [], ◌∷◌, filter, ap, arith, All, Some, None, slice_get}
+use Rattle.nccheck_laws.proofs.Prelude.{Contains, lt-ltb, nat_tests, get_or-map-range_with_len, length-map-range_with_len, mul-le-mul_right, Slot, FileLayout, Extent, LayoutFact, Slab, SlabPlace, is_fixed, record_size, record_count, slot_block, records_block, blocks, has_values, values_end, first_slab, is_cut, record_slab, slabs_of, all_slabs, first_cut_slab, end_findings, IsSoundSlot, IsSoundLayout, contains-here, contains-none, contains-cases, contains-filter, filter-contains, greatest_from-above, greatest_from-least, MissingValuesHaveSlab, ◌≡◌, ℕ, ◌+◌, ◌-◌, ◌*◌, ◌<◌, ◌≤◌, Bool, true, false, not, List, [], ◌∷◌, filter, ap, arith, All, Some, None, slice_get, common_steps}
 use Rattle.nc_layout.specs.declared.finding.Slab.TheVariants as slabs
 use Rattle.nc_layout.specs.declared.finding.LayoutFact.TheVariants as facts
 use Rattle.nccheck_laws.proofs.FoundNone.{Quiet}
@@ -64,9 +64,7 @@ fixed_slab i x = record { slab = slabs.Var i; begin = x.begin; end = x.begin + x
 -- what holds of it, or of the slabs of a record slot, holds of each slab of the slot
 pub each-slab : (size n i : ℕ) (x : Slot) (P : SlabPlace → Type 0) → (is_fixed x ≡ true → P (fixed_slab i x))
     → (x.is_record ≡ true → (r : ℕ) → r < n → P (record_slab size i x r)) → (b : SlabPlace) → Contains (slabs_of size n i x) b → P b
-each-slab size n i x P fixed records b (r, lt, at) =
-    let slab = record_slab size i x in
-    grind (arith, length-map-range_with_len slab 0 n, get_or-map-range_with_len slab 0 n r r b, fixed, records)
+each-slab size n i x P fixed records b (r, lt, at) = grind (arith, common_steps, get_or-map-range_with_len, length-map-range_with_len)
 
 -- ---- slabs that are whole
 

@@ -48,10 +48,6 @@ each-row-ends size len base stride strides vs k (suc n) all (suc q) m lt is =
     (all-parts (EndsIn size len) _ _ (simp map-append at all)).1 in
     each-row-ends size len base stride strides vs (k + 1) n others q m (omega arith) (omega arith)
 
--- a factor of a product that isn't 0
-some-factor : (a b : ℕ) → 0 < a * b → 0 < b
-some-factor a v1 some = grind arith
-
 -- where the values of a slab end in the file, the slab does
 slab-ends : (size len base : ℕ) (lens : List ℕ) → 0 < product lens → AllEnd size len base (slab_strides size lens) (vectors_below lens)
     → base + product lens * size ≤ len
@@ -59,7 +55,7 @@ slab-ends size len base [] some all = let h = All-head (EndsIn size len) (base +
 slab-ends size len base (zero ∷ lens) some all = absurd (omega arith)
 slab-ends size len base (suc m ∷ lens) some all =
     let s = size * product lens in
-    let last = slab-ends size len (base + m * s) lens (some-factor (suc m) (product lens) some)
+    let last = slab-ends size len (base + m * s) lens (grind arith)
     (each-row-ends size len base s (slab_strides size lens) (vectors_below lens) 0 (suc m) all m m (omega arith) (omega arith)) in
     let a : suc m * product lens * size ≡ m * s + product lens * size = omega arith in
     omega arith

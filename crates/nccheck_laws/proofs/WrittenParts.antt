@@ -10,7 +10,8 @@ use Rattle.nccheck_laws.proofs.StrictHeaders.{strict-fields, strict-headers}
 use Rattle.nccheck_laws.proofs.Vsizes.{spelled-whole}
 use Rattle.nccheck_laws.proofs.Spellings.{odd_padding, odd_list, any_odd, IsSized, AreSized, are-written}
 use Rattle.nccheck_laws.proofs.Written.{whole_field, at-start, bytes-fields, decoded-fields, chain-fields, first-written, later-written, first-bytes, later-bytes, IsWidth, is-width-32, is-width-count, is-width-offset}
-use Rattle.nccheck_laws.proofs.Leaves.{IsLeafOf, leaf-spelled}
+use Rattle.nccheck_laws.proofs.Leaves.{leaf-spelled}
+use Rattle.nccheck_laws.proofs.IndexedSlots.{at-middle}
 
 -- ---- parts
 
@@ -101,14 +102,11 @@ canonical h next steps (chain get p later) from y rest plain k (x, got, good, mo
 
 -- ---- numbers and padding
 
-ok-same : {A : Type 0} {x y : A} → ◌≡◌ {A = Result A FormatFault} (Ok x) (Ok y) → x ≡ y
-ok-same e = cc
-
 kept-number : (h : Header) (next : List Field) (steps : List Step) (w : Width) (from : Bytes) (n : ℕ) (rest : Bytes) → IsWidth w
     → IsKept h next steps (number w) from n rest
 unfolding Spells number
 kept-number h next steps w from n rest wide digits (count, is) e =
-    (tt, λ are written. ap (to_be_bytes w) (sym (ok-same e)) ∙ wide digits (first-bytes digits rest (subst AreBytes is are)) count)
+    (tt, λ are written. ap (to_be_bytes w) (sym (cc)) ∙ wide digits (first-bytes digits rest (subst AreBytes is are)) count)
 
 no-nonzero : (n : ℕ) → has_nonzero (replicate n 0) ≡ false
 no-nonzero zero = refl
@@ -198,45 +196,28 @@ kept-each h next steps element (suc n) before from all rest go = λ x middle s t
 abbrev tag_part : ℕ → Part ℕ
 tag_part tag = checked (λ t. (t == 0) || (t == tag)) BadTag (number w32)
 
-tag-leaf : (steps : List Step) (tag : ℕ) (from : Bytes) (n : ℕ) (rest : Bytes) → Spells (tag_part tag) from n rest
-    → IsLeafOf steps (tag_part tag) from n
-unfolding number
-tag-leaf steps tag from n rest s = leaf-spelled steps (tag_part tag) from n rest refl s
-
 -- the number of elements after this tag
 abbrev elements_part : Version → ℕ → Part ℕ
 elements_part v found = checked (λ n. not (found == 0) || (n == 0)) BadCount (count_part v)
 
-elements-leaf : (steps : List Step) (v : Version) (found : ℕ) (from : Bytes) (n : ℕ) (rest : Bytes)
-    → Spells (elements_part v found) from n rest → IsLeafOf steps (elements_part v found) from n
-unfolding limited_part number
-elements-leaf steps v found from n rest s = leaf-spelled steps (elements_part v found) from n rest refl s
-
--- a list's tag, if it isn't the list's own before a number of 0
-written-tag : (tag found n : ℕ) → ((found == 0) || (found == tag)) ≡ true → (not (found == 0) || (n == 0)) ≡ true
-    → (not (found == 0) && (n == 0)) ≡ false → (if n == 0 then 0 else tag) ≡ found
-written-tag tag found n known none own = grind (arith, eqb-true)
-
-even-tag : (tag found n : ℕ) → (if n == 0 then 0 else tag) ≡ found → (not (found == 0) && (n == 0)) ≡ false
-even-tag tag found n own = grind arith
-
 -- what is written of a list's tag is the tag that is there, if that is as it is written; and so it is then
-tag-kept : (h : Header) (steps : List Step) (v : Version) (tag : ℕ) (from middle : Bytes) (found n : ℕ)
-    → IsLeafOf (Tag ∷ steps) (tag_part tag) from found → IsLeafOf (Count ∷ steps) (elements_part v found) middle n
+tag-kept : (h : Header) (steps : List Step) (v : Version) (tag : ℕ) (from middle rest : Bytes) (found n : ℕ)
+    → Spells (tag_part tag) from found middle → Spells (elements_part v found) middle n rest
     → let tags = fields (Tag ∷ steps) (tag_part tag) from in
     let counts = fields (Count ∷ steps) (elements_part v found) middle in
     (AreWritten h (tags ++ counts) → (if n == 0 then 0 else tag) ≡ found)
     × ((if n == 0 then 0 else tag) ≡ found → (after : List Field) → AreCanonical h (counts ++ after) → AreCanonical h (tags ++ (counts ++ after)))
 unfolding limited_part number
-tag-kept h steps v tag from middle found n a b = (λ w. grind (arith, written-tag), λ own after w. grind (arith, even-tag))
+tag-kept h steps v tag from middle rest found n s t =
+    let a = leaf-spelled (Tag ∷ steps) (tag_part tag) from found middle refl s in
+    let b = leaf-spelled (Count ∷ steps) (elements_part v found) middle n rest refl t in
+    (λ w. grind (arith, eqb-true), λ own after w. grind arith)
 
 kept-head : (h : Header) (next : List Field) (steps : List Step) (v : Version) (tag : ℕ) (from : Bytes) (n : ℕ) (rest : Bytes)
     → IsKept h next steps (list_head v tag) from n rest
 unfolding Spells list_head fields
 kept-head h next steps v tag from n rest found m s t =
-    let a = tag-leaf (Tag ∷ steps) tag from found m s in
-    let b = elements-leaf (Count ∷ steps) v found m n rest t in
-    let kept = tag-kept h steps v tag from m found n a b in (
+    let kept = tag-kept h steps v tag from m rest found n s t in (
       λ w. ap Some (kept.0 w),
       λ got. (
         (grind (arith, kept-checked, kept-number, is-width-32), λ is. kept.1 (cc)),
@@ -304,11 +285,6 @@ unfolding number
 vsize-shown h i steps from vsize rest var there s own after w =
     let f = leaf-spelled (Vsize ∷ Item i ∷ steps) (number (count_width h.version)) from vsize rest refl s in grind arith
 
--- the variable after those before
-var-there : (before : List Var) (var : Var) (back : List Var) → slice_get (before ++ var ∷ back) (length before) ≡ Some var
-var-there [] var back = refl
-var-there (x ∷ before) var back = var-there before var back
-
 kept-var : (h : Header) (next : List Field) (i : ℕ) (steps : List Step) (total : ℕ) (from : Bytes) (var : Var) (rest : Bytes)
     → slice_get h.vars i ≡ Some var → IsKept h next (Item i ∷ steps) (var_part strict h.version h.dims total) from var rest
 unfolding Spells var_part
@@ -336,19 +312,12 @@ unfolding Spells var_list
 kept-vars h next steps v dims from vars rest version same all = rw (version, same, all)
     (kept-list h next steps h.version variable_tag (var_after strict h.version h.dims) from h.vars rest
     (λ next before x back from rest is s.
-    kept-var h next (length before) steps _ from x rest (ap (λ (vars : List Var). slice_get vars (length before)) is ∙ var-there before x back)))
+    kept-var h next (length before) steps _ from x rest (ap (λ (vars : List Var). slice_get vars (length before)) is ∙ at-middle before x back)))
 
 -- ---- the whole
 
 three-letters : (letters : Bytes) → bytes_eq letters (codes "CDF") ≡ true → letters ≡ codes "CDF"
 three-letters letters e = grind (arith, bytes_eq-Decides letters (codes "CDF"))
-
-one-byte : (byte : Bytes) (v : Version) → length byte ≡ 1 → version_in byte ≡ Ok v → version_byte v ∷ [] ≡ byte
-one-byte v0 v count e = grind (arith, common_steps)
-
-kept-magic : (h : Header) (next : List Field) (from : Bytes) (v : Version) (rest : Bytes) → IsKept h next [] magic_part from v rest
-unfolding Spells magic_part version_part
-kept-magic h next from v rest = grind (arith, passed, three-letters, one-byte)
 
 kept-numrecs : (h : Header) (next : List Field) (steps : List Step) (v : Version) (from : Bytes) (n : NumRecs) (rest : Bytes)
     → IsKept h next steps (numrecs_part strict v) from n rest
@@ -356,8 +325,8 @@ unfolding numrecs_part
 kept-numrecs h next steps v from n rest = grind (arith, kept-number, is-width-count)
 
 kept-header : (h : Header) (from rest : Bytes) → IsKept h [] [] (header_by strict) from h rest
-unfolding Spells header_by
-kept-header h from rest = grind (arith, kept-magic, kept-numrecs, kept-dims, kept-atts, kept-vars)
+unfolding Spells header_by magic_part version_part
+kept-header h from rest = grind (arith, kept-numrecs, kept-dims, kept-atts, kept-vars, passed, three-letters, common_steps)
 
 pub written-fields : WrittenFieldsAreCanonical
 written-fields from h rest are s written =
@@ -368,15 +337,11 @@ written-fields from h rest are s written =
 abbrev HasFittingBegin : Version → Var → Type 0
 HasFittingBegin v var = var.begin_at < offset_limit v
 
-begin-fits : (v : Version) (dims : List Dim) (total : ℕ) (from : Bytes) (var : Var) (rest : Bytes)
-    → Spells (var_part strict v dims total) from var rest → HasFittingBegin v var
-unfolding Spells var_part offset_part
-begin-fits v dims total from var rest v6 = grind arith
-
 begins-fit : (v : Version) (dims : List Dim) (before : List Var) (from : Bytes) (x : Var) (rest : Bytes)
     → Spells (var_after strict v dims before) from x rest → All (HasFittingBegin v) before → All (HasFittingBegin v) (before ++ x ∷ [])
+unfolding Spells var_part offset_part
 begins-fit v dims before from x rest s fit =
-    All-append (HasFittingBegin v) before (x ∷ []) fit (All-cons _ x [] (begin-fits v dims _ from x rest s) (All-nil (HasFittingBegin v)))
+    All-append (HasFittingBegin v) before (x ∷ []) fit (All-cons _ x [] (grind arith) (All-nil (HasFittingBegin v)))
 
 header-begins : (from : Bytes) (h : Header) (rest : Bytes) → Spells header_part from h rest → All (HasFittingBegin h.version) h.vars
 unfolding Spells header_by var_list list_part
