@@ -1,8 +1,7 @@
 -- The parts of a header agree by the strict and the lenient rules, up to the first field that the strict rules refuse.
-use Rattle.nccheck_laws.proofs.Prelude.{common_steps, nat_tests, Dim, Var, Version, Bytes, is_name, padded_total, record_vars, Step, Part, bytes, Dims, Gatts, Vars, Tag, Count, Item, Name, Padding, Shape, Atts, Vsize, strict, checked, dimension_tag, variable_tag, dim_after, dimid_after, var_after, number, limited_part, offset_part, ignored, name_part, type_part, counted, list_head, list_part, dim_part, dim_list, att_part, att_list, dimid_part, shape_part, var_part, var_list, version_part, magic_part, numrecs_part, header_by, lenient, refusal_in, without_values, NcType, HeaderTruncated, TooLarge, count_limit, Magic, Length, TypeCode, is_within_limits, attribute_tag, att_after, may_be_name, BadName, TwoRecordDims, has_record_dim, VersionByte, Records, Text, Values, Begin, any_length_limit, att_without_values, var_without_values, total-append, one-total, ◌≡◌, ℕ, ◌==◌, ◌&&◌, not, Bool, List, [], ◌∷◌, map, take, Ok, Err, refl, sym, arith, if◌then◌else◌}
-use Rattle.nc_fields.specs.declared.entry.Content.TheVariants as content
+use Rattle.nccheck_laws.proofs.Prelude.{common_steps, nat_tests, Dim, Var, Version, is_name, padded_total, record_vars, Step, Part, bytes, Dims, Gatts, Vars, Tag, Count, Item, Name, Padding, Shape, Atts, Vsize, strict, checked, dimension_tag, variable_tag, dim_after, dimid_after, var_after, number, limited_part, offset_part, ignored, name_part, type_part, counted, list_head, list_part, dim_part, dim_list, att_part, att_list, dimid_part, shape_part, var_part, var_list, version_part, magic_part, numrecs_part, header_by, lenient, without_values, NcType, HeaderTruncated, TooLarge, count_limit, Magic, Length, TypeCode, is_within_limits, attribute_tag, att_after, may_be_name, BadName, TwoRecordDims, has_record_dim, VersionByte, Records, Text, Values, Begin, any_length_limit, att_without_values, var_without_values, total-append, one-total, ◌≡◌, ℕ, ◌==◌, ◌&&◌, not, Bool, List, [], ◌∷◌, map, take, refl, sym, arith}
 use Rattle.nccheck_laws.proofs.OddNames.{name-may-be}
-use Rattle.nccheck_laws.proofs.Agreement.{Agree, Judges, fault_of, Extends, agree-leaf, agree-plain, agree-done, agree-under, agree-chain, agree-each, extends-same, extends-map}
+use Rattle.nccheck_laws.proofs.Agreement.{Agree, Extends, agree-leaf, agree-plain, agree-done, agree-under, agree-chain, agree-each, extends-same, extends-map}
 
 -- ---- single fields
 

@@ -1,5 +1,5 @@
 -- A strict and a lenient reader of a part agree, up to the first field that the strict rules refuse.
-use Rattle.nccheck_laws.proofs.Prelude.{option_or, FormatFault, Bytes, Step, Part, done, under, chain, Item, Outcome, and_then, run, Field, fields, each, refusal_in, first_refusal, whole_content, fault_in, common_steps, le-ltb, lt-ltb, leb-true, leb-false, map-append, length-map, ◌≡◌, ℕ, suc, zero, ◌<◌, Bool, true, false, leb, List, [], ◌∷◌, ◌++◌, length, map, take, drop, Option, Some, None, Result, Ok, Err, refl, sym, subst, arith}
+use Rattle.nccheck_laws.proofs.Prelude.{option_or, FormatFault, Bytes, Step, Part, done, under, chain, Item, Outcome, and_then, run, Field, fields, each, refusal_in, first_refusal, whole_content, fault_in, common_steps, le-ltb, lt-ltb, leb-true, leb-false, map-append, length-map, ◌≡◌, ℕ, suc, zero, Bool, true, false, leb, List, [], ◌∷◌, ◌++◌, length, map, take, drop, Option, Some, None, Result, Ok, Err, refl, sym, arith}
 use Rattle.nccheck_laws.proofs.Leaves.{is_leaf, leaf_size, leaf_cut, judge, read_bytes, leaf-run, leaf-field}
 
 -- ---- outcomes

@@ -1,5 +1,5 @@
 -- The fields of a part begin one after the other.
-use Rattle.nccheck_laws.proofs.Prelude.{shorter, ◌≡◌, ℕ, ◌≤◌, List, [], ◌∷◌, ◌++◌, length, Result, Ok, Err, arith, le_trans}
+use Rattle.nccheck_laws.proofs.Prelude.{shorter, ℕ, ◌≤◌, List, [], ◌∷◌, ◌++◌, length, Result, Ok, Err, arith, le_trans}
 use Rattle.nc_fields.proofs.Prelude.{Bytes, Step, Part, done, bytes, decoded, under, chain, Outcome, and_then, with_rest, run, left_after, FormatFault, Field, judged, fields}
 
 -- where the first of these fields begins, at most the one number of bytes is left; where a later one begins, at most what was left before

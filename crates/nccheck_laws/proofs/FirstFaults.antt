@@ -1,5 +1,5 @@
 -- The first fault of a report is that of the first entry that the strict rules refuse.
-use Rattle.nccheck_laws.proofs.Prelude.{nat_tests, list_any, list_any-append, list_any-IsPermutation, Contains, All-cons, Contains-append_right, FormatFault, FloatingType, Bytes, header_part, header_by, run, Entry, lenient, first_refusal, header_fields, Fact, Finding, Report, Indexed, field_at, indexed_from, finding, facts_of, findings_at, field_findings, floating_findings, header_findings, all_findings, IsReport, is_fault, All-contains, All-permutation, left_after, is_floating_in, floating_finding, is_eq, tied_itself, All-head, All-tail, Contains-append_cases, Any-from_list_any, strict_fault, HasNoFault, IsReadable, FindsFirst, FaultlessHeadersAreReadable, FirstFaultIsReaders, ◌-◌, min, ◌≡◌, ◌==◌, ◌&&◌, ℕ, ◌+◌, ◌≤◌, ◌⊎◌, inl, inr, Bool, true, false, List, [], ◌∷◌, ◌++◌, length, map, flat_map, Option, Some, None, refl, sym, ap, ◌∙◌, subst, arith, le_refl, All, option_to_list, contains-here, common_steps}
+use Rattle.nccheck_laws.proofs.Prelude.{nat_tests, list_any, list_any-append, list_any-IsPermutation, Contains, All-cons, Contains-append_right, FormatFault, FloatingType, Bytes, header_part, header_by, run, Entry, lenient, first_refusal, header_fields, Fact, Finding, Report, Indexed, field_at, indexed_from, finding, facts_of, findings_at, field_findings, floating_findings, header_findings, all_findings, IsReport, is_fault, All-contains, All-permutation, left_after, is_floating_in, floating_finding, is_eq, tied_itself, All-head, All-tail, Contains-append_cases, Any-from_list_any, strict_fault, HasNoFault, IsReadable, FindsFirst, FaultlessHeadersAreReadable, FirstFaultIsReaders, min, ◌≡◌, ◌==◌, ◌&&◌, ℕ, ◌+◌, ◌≤◌, ◌⊎◌, inl, inr, Bool, true, false, List, [], ◌∷◌, ◌++◌, length, map, flat_map, Option, Some, None, refl, sym, ap, ◌∙◌, subst, arith, le_refl, All, option_to_list, contains-here, common_steps}
 use Rattle.nc_base.specs.contracts.fault.FormatFaultOrd.TheImpl as faults
 use Rattle.nc_base.specs.contracts.fault.FormatFaultOrd.TheImpl.Laws as fault_laws
 use Rattle.nc_base.proofs.PartPlaces.{stops-in}

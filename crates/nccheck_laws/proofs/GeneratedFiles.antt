@@ -1,5 +1,5 @@
 -- The begins and the length of a generated file are the canonical ones, whatever begins the header has.
-use Rattle.nccheck_laws.proofs.Prelude.{zip, range_with_len, common_steps, map-append, length-map, take-append-le, take-length, Dataset, Dim, Header, Var, Known, Bytes, data_of, file_of, fixed_vars, known_records, record_part, slabs_before, vars_with_begins, with_begins, header_spelling, AreArrays, bare, bare_var, padded_total, record_size_of, record_vars, header-len-bare, len-after, record_size_of-bare, records-bare, Slot, record_count, slot_of, layout_of, record_slots-total, CanonicalBeginsAreGenerated, QuietFilesAreGenerated, canonical_begin, canonical_len, HasCanonicalBegins, ◌≡◌, ℕ, zero, suc, ◌+◌, ◌*◌, ◌<◌, ◌≤◌, List, [], ◌∷◌, ◌++◌, length, map, refl, sym, ◌∙◌, arith, append_assoc, length-append, Some, slice_get, flat_map}
+use Rattle.nccheck_laws.proofs.Prelude.{zip, range_with_len, common_steps, map-append, length-map, take-append-le, take-length, Dataset, Dim, Header, Var, Known, Bytes, data_of, file_of, fixed_vars, known_records, record_part, slabs_before, vars_with_begins, with_begins, header_spelling, AreArrays, bare, bare_var, padded_total, record_size_of, record_vars, header-len-bare, len-after, record_size_of-bare, records-bare, record_count, slot_of, layout_of, record_slots-total, CanonicalBeginsAreGenerated, QuietFilesAreGenerated, canonical_begin, canonical_len, HasCanonicalBegins, ◌≡◌, ℕ, zero, suc, ◌+◌, ◌*◌, ◌<◌, ◌≤◌, List, [], ◌∷◌, ◌++◌, length, map, refl, sym, ◌∙◌, arith, append_assoc, length-append, flat_map}
 use Rattle.nccheck_laws.proofs.IndexedSlots.{at-middle}
 use Rattle.nc_base.specs.GeneratedFile.{is_sole_narrow as is_sole_narrow_var}
 use Rattle.nc_base.proofs.FilePlaces.{length-blocks, length-record, padded_total-append, record_size_of-slots, slots as record_bytes}

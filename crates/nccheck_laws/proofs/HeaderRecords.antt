@@ -1,7 +1,6 @@
 -- The records of a header are those of its slots: their size, their begin and their number.
-use Rattle.nccheck_laws.proofs.Prelude.{common_steps, option_map_or, sum-map, Dim, Header, Var, fixed_vars, least_begin, padded_total, record_size_of, record_vars, records_between, Slot, is_fixed, is_sole_narrow, least, record_count, record_size, records_begin, records_by_length, slot_of, layout_of, slots-total, record_slots-are, fixed_bytes, ◌≡◌, ℕ, ◌-◌, ◌/◌, min, List, [], ◌∷◌, filter, map, fold, sum_by, refl, ap, arith}
+use Rattle.nccheck_laws.proofs.Prelude.{common_steps, option_map_or, sum-map, Dim, Header, Var, fixed_vars, least_begin, padded_total, record_size_of, record_vars, records_between, Slot, is_fixed, is_sole_narrow, least, record_count, record_size, records_begin, records_by_length, slot_of, layout_of, slots-total, record_slots-are, fixed_bytes, ◌≡◌, ℕ, ◌-◌, ◌/◌, min, List, [], ◌∷◌, filter, map, fold, refl, ap, arith}
 use Rattle.nc_base.specs.Sizes.{record_count as header_record_count, record_size as header_record_size}
-use Rattle.nc_layout.specs.code.Records.{slab_if}
 use Rattle.nc_layout.proofs.SlotLists.{record_size_is}
 use Rattle.nccheck_laws.proofs.LayoutBlocks.{min-from}
 

@@ -1,5 +1,5 @@
 -- The blocks of a layout: those of slots that aren't record slots, and that of the records.
-use Rattle.nccheck_laws.proofs.Prelude.{Contains, option_map_or, cases_lt, nat_tests, Contains-append_left, Contains-append_right, Contains-append_cases, Slot, FileLayout, Extent, padded_slab, is_fixed, record_slots, record_size, records_begin, record_count, each_slot, slot_block, fixed_block, records_end, records_block, blocks, before, precedes, greatest_end, bytes_before, is_record_slot, padding_end, contains-here, contains-filter, filter-contains, greatest_from-above, greatest_from-least, fixed_bytes, ◌≡◌, ℕ, zero, suc, ◌+◌, ◌-◌, ◌*◌, ◌<◌, ◌≤◌, max, min, true, false, List, [], ◌∷◌, length, take, fold, refl, ap, arith, Some, unwrap_or, if◌then◌else◌, common_steps}
+use Rattle.nccheck_laws.proofs.Prelude.{Contains, option_map_or, cases_lt, nat_tests, Contains-append_left, Contains-append_cases, Slot, FileLayout, Extent, padded_slab, is_fixed, record_slots, record_size, records_begin, record_count, each_slot, slot_block, fixed_block, records_end, records_block, blocks, before, precedes, greatest_end, bytes_before, is_record_slot, padding_end, contains-here, contains-filter, filter-contains, greatest_from-above, greatest_from-least, fixed_bytes, ◌≡◌, ℕ, suc, ◌+◌, ◌-◌, ◌*◌, ◌<◌, ◌≤◌, max, min, true, false, List, [], ◌∷◌, length, take, fold, refl, ap, arith, Some, unwrap_or, if◌then◌else◌, common_steps}
 use Rattle.nccheck_laws.proofs.IndexedSlots.{At, contains-at, at-contains, there-from, in-each, total-whole, total-reach}
 
 -- ---- each of them

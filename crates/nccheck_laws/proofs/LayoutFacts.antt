@@ -1,6 +1,6 @@
 -- What a report finds about the layout is what is found in the layout of the header; so it finds that values are missing exactly if some
 -- variable of the header has a first missing value.
-use Rattle.nccheck_laws.proofs.Prelude.{FormatFault, Dim, Header, Var, Bytes, SpellsHeader, header_by, run, reads, stops, Listing, lenient, IsOutcome, without_values, layout_of, slot_of, Report, indexed, layout_facts, whole_findings, IsReport, var_without_values, list_any, list_any-append, list_any-IsPermutation, option_map, FloatingType, name_findings, attribute_findings, strict, Entry, Content, FieldName, layout_findings, spelled-layout, Fact, Finding, Indexed, field_at, indexed_from, finding, facts_with, findings_at, field_findings, floating_findings, header_findings, vsize_findings, located, all_findings, has_any, finds, is_of_missing, is_missing, LayoutFact, LayoutFinding, ReportsTellMissingValues, is_of_layout, ◌≡◌, ℕ, ◌+◌, List, [], ◌∷◌, length, map, Result, Ok, Err, refl, ap, subst, arith, Bool, false, flat_map, Option, Some, None, sym, ◌∙◌, option_to_list, common_steps}
+use Rattle.nccheck_laws.proofs.Prelude.{FormatFault, Dim, Header, Var, Bytes, SpellsHeader, reads, stops, Listing, without_values, layout_of, slot_of, Report, indexed, layout_facts, whole_findings, IsReport, var_without_values, list_any, list_any-append, list_any-IsPermutation, strict, Entry, Content, FieldName, layout_findings, spelled-layout, Fact, Finding, Indexed, field_at, indexed_from, finding, facts_with, findings_at, field_findings, floating_findings, header_findings, vsize_findings, located, all_findings, has_any, finds, is_of_missing, is_missing, LayoutFact, LayoutFinding, ReportsTellMissingValues, is_of_layout, ◌≡◌, ℕ, ◌+◌, List, [], ◌∷◌, length, map, Ok, refl, ap, arith, Bool, false, flat_map, Option, Some, None, sym, ◌∙◌, common_steps}
 use Rattle.nccheck_laws.proofs.StrictHeaders.{strict-headers}
 use Rattle.nc_report.specs.declared.finding.Fact.TheVariants as fact
 use Rattle.nccheck_laws.proofs.FaultFindings.{fault-fact}

@@ -1,5 +1,5 @@
 -- Parts that are one field: a number of bytes, whose value is decoded.
-use Rattle.nccheck_laws.proofs.Prelude.{FormatFault, Bytes, Step, Part, done, bytes, decoded, under, chain, Spells, Outcome, and_then, run, reads, fields, fault_in, HeaderTruncated, with_rest, IsField, bytes-field, decoded-field, ◌≡◌, ℕ, Bool, true, false, cond, leb, List, [], ◌∷◌, length, take, drop, None, Result, Ok, Err, refl, sym, ap, ◌∙◌, arith, common_steps}
+use Rattle.nccheck_laws.proofs.Prelude.{FormatFault, Bytes, Step, Part, done, bytes, decoded, under, chain, Spells, Outcome, and_then, run, reads, fields, fault_in, HeaderTruncated, with_rest, IsField, bytes-field, decoded-field, ◌≡◌, ℕ, Bool, true, false, cond, leb, List, [], ◌∷◌, length, take, drop, None, Result, Ok, Err, refl, ap, ◌∙◌, arith, common_steps}
 
 abbrev pub is_leaf : {A : Type 0} → Part A → Bool
 is_leaf (bytes n cut) = true

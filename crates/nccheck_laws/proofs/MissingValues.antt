@@ -1,5 +1,5 @@
 -- Values are found to be missing exactly if some variable has a first missing value.
-use Rattle.nccheck_laws.proofs.Prelude.{list_any, is_some, All-cons, All-map, All-nil, list_any_none, Header, Var, Bytes, first_missing, FileLayout, block_findings, end_findings, values_end, IsSoundLayout, IsSoundSlot, MissingValuesAreFound, ShortFilesLackValues, finds, is_of_missing, lacks_values, layout_of, slot_of, slot_findings, nat_tests, ◌≡◌, ℕ, ◌≤◌, false, List, [], ◌∷◌, length, map, refl, ap, arith, Option, None, All}
+use Rattle.nccheck_laws.proofs.Prelude.{list_any, is_some, All-cons, All-map, All-nil, list_any_none, Header, Var, Bytes, first_missing, FileLayout, block_findings, end_findings, values_end, IsSoundLayout, IsSoundSlot, MissingValuesAreFound, ShortFilesLackValues, finds, is_of_missing, lacks_values, layout_of, slot_of, slot_findings, nat_tests, ◌≡◌, ℕ, ◌≤◌, false, List, [], ◌∷◌, length, map, refl, ap, arith, None, All}
 use Rattle.nc_base.specs.Sizes.{record_count, record_size}
 pub use Rattle.nc_layout.proofs.HeaderSlots.{unmapped}
 use Rattle.nccheck_laws.proofs.WholeSlots.{quiet-values, IsWholeSlot, values-whole, whole-values}

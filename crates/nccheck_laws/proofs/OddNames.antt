@@ -1,5 +1,5 @@
 -- A valid name may be a name by the lenient rules.
-use Rattle.nccheck_laws.proofs.Prelude.{common_steps, Bytes, is_name, may_be_name, list_all, take_while-cons, may_begin_name, may_follow_in_name, is_no_control, ◌≡◌, ℕ, ◌==◌, ◌&&◌, not, Bool, true, [], ◌∷◌, length, take_while, nat_lt, refl, arith}
+use Rattle.nccheck_laws.proofs.Prelude.{common_steps, Bytes, is_name, may_be_name, list_all, take_while-cons, may_follow_in_name, is_no_control, ◌≡◌, ◌==◌, not, Bool, true, [], ◌∷◌, length, take_while, nat_lt, refl, arith}
 
 abbrev is_printing : Bytes → Bool
 is_printing bs = list_all is_no_control bs

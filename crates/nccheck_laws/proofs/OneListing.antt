@@ -1,5 +1,5 @@
 -- Each list of bytes has one listing.
-use Rattle.nccheck_laws.proofs.Prelude.{Header, FormatFault, Bytes, Step, header_by, Outcome, run, reads, stops, Content, Entry, Listing, Field, fields, Seen, seen_by, steps_of, seen, lenient, IsOutcome, with_rest, left_after, Tells, tells, shorter, IsListing, ◌≡◌, ℕ, ◌-◌, List, [], ◌∷◌, length, map, Option, Result, Ok, Err, refl, sym, ap, ap₂, ◌∙◌, arith}
+use Rattle.nccheck_laws.proofs.Prelude.{Header, FormatFault, Bytes, Step, header_by, Outcome, run, reads, stops, Entry, Listing, Field, fields, seen_by, seen, lenient, IsOutcome, with_rest, left_after, Tells, tells, shorter, IsListing, ◌≡◌, ℕ, ◌-◌, List, [], ◌∷◌, length, map, Result, Ok, Err, refl, sym, ap, ap₂, ◌∙◌, arith}
 use Rattle.nccheck_laws.proofs.FieldPlaces.{ArePlaced, placed-header}
 
 -- ---- entries

@@ -1,5 +1,5 @@
 -- The first entry of a listing that the strict rules refuse.
-use Rattle.nccheck_laws.proofs.Prelude.{All-nil, All-cons, FormatFault, Bytes, Step, Entry, Field, seen, Seen, seen_by, steps_of, whole_content, refusal_in, first_refusal, Magic, cut_content, length-drop, refusal, le_trans, ◌≡◌, ℕ, ◌-◌, ◌≤◌, Bool, true, false, cond, nat_lt, List, [], ◌∷◌, ◌++◌, length, map, drop, Option, Some, None, refl, sym, ap, ◌∙◌, subst, arith, All, common_steps}
+use Rattle.nccheck_laws.proofs.Prelude.{All-nil, All-cons, FormatFault, Bytes, Entry, Field, seen, Seen, seen_by, steps_of, refusal_in, first_refusal, length-drop, refusal, le_trans, ◌≡◌, ℕ, ◌-◌, ◌≤◌, List, [], ◌∷◌, ◌++◌, length, map, drop, Option, Some, None, refl, sym, ap, ◌∙◌, subst, arith, All, common_steps}
 use Rattle.nccheck_laws.proofs.Agreement.{first_of}
 use Rattle.nccheck_laws.proofs.FieldOrder.{Descend}
 

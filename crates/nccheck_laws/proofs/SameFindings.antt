@@ -1,5 +1,5 @@
 -- The order of findings tells all of them apart.
-use Rattle.nccheck_laws.proofs.Prelude.{FormatFault, Fact, Finding, Ordering, Less, Equal, Greater, LayoutFact, finding_cmp, option_cmp, is_eq, nat_cmp, ordering_then, ranked, Block, Slab, ◌≡◌, ℕ, false, refl, sym, ap, Option, arith}
+use Rattle.nccheck_laws.proofs.Prelude.{FormatFault, Fact, Finding, Ordering, Equal, LayoutFact, finding_cmp, option_cmp, is_eq, nat_cmp, ordering_then, ranked, Block, Slab, ◌≡◌, ℕ, false, refl, sym, ap, Option, arith}
 use Rattle.nc_report.specs.declared.finding.Fact.TheVariants as fact
 use Rattle.nc_base.specs.contracts.fault.FormatFaultOrd.TheImpl as faults
 use Rattle.nc_layout.specs.contracts.finding.BlockOrd.TheImpl as blocks

@@ -1,6 +1,6 @@
 -- The dump of all values is whole if no variable has a first missing value, and otherwise ends at one.
-use Rattle.nccheck_laws.proofs.Prelude.{list_any, not, Header, Var, Bytes, SpellsHeader, ltb-false, first_missing, lacks_values, is_some, false≢true, All-head, All-tail, slab_size, record-whole, ShowsAllValues, ◌≡◌, ℕ, ◌+◌, ◌*◌, ◌<◌, ◌≤◌, Bool, true, false, List, [], ◌∷◌, map, refl, arith, None, All, nat_lt, if◌then◌else◌}
-use Rattle.nc_base.specs.Dump.{Options, Ending, whole, data_truncated, IsDump, stopped, unknown, shown, has_values, is_selected, shown_data, values_in_file, variables_text}
+use Rattle.nccheck_laws.proofs.Prelude.{list_any, not, Header, Var, Bytes, SpellsHeader, ltb-false, first_missing, lacks_values, is_some, false≢true, All-head, All-tail, slab_size, record-whole, ShowsAllValues, ◌≡◌, ℕ, ◌+◌, ◌≤◌, Bool, true, false, List, [], ◌∷◌, map, refl, arith, None, All, if◌then◌else◌}
+use Rattle.nc_base.specs.Dump.{Options, Ending, whole, data_truncated, IsDump, stopped, unknown, shown, has_values, shown_data, values_in_file, variables_text}
 use Rattle.nc_base.proofs.HeaderOutcomes.{one-header, header-fine}
 use Rattle.nccheck_laws.proofs.WholeVariables.{some-values}
 

@@ -1,5 +1,5 @@
 -- Where no two slabs have a byte in common, no two values have one: those of a slab stand in it, one after the other.
-use Rattle.nccheck_laws.proofs.Prelude.{AllPairs, Contains, range_with_len, map-append, append-nil, append_assoc, All-append, All-cons, All-contains, All-head, All-nil, All-tail, All-weaker, AllPairs-cons, Header, Var, slab_strides, value_offsets, vectors_below, is_record_var, product, slab_lens, size_of, SlabPlace, record_slab, slabs_of, all_slabs, each_slot, layout_of, slot_of, AreApart, ◌≡◌, ℕ, zero, suc, ◌+◌, ◌*◌, ◌≤◌, inl, inr, Bool, true, false, List, [], ◌∷◌, ◌++◌, get_or, length, length-map-range_with_len, get_or-map-range_with_len, ◌<◌, map, refl, sym, ap, subst, ◌∙◌, arith, All, if◌then◌else◌, flat_map}
+use Rattle.nccheck_laws.proofs.Prelude.{AllPairs, range_with_len, map-append, append-nil, append_assoc, All-append, All-cons, All-contains, All-head, All-nil, All-tail, All-weaker, Header, Var, slab_strides, value_offsets, vectors_below, is_record_var, product, slab_lens, size_of, SlabPlace, record_slab, slabs_of, all_slabs, each_slot, layout_of, slot_of, AreApart, ◌≡◌, ℕ, zero, suc, ◌+◌, ◌*◌, ◌≤◌, inl, inr, Bool, true, false, List, [], ◌∷◌, ◌++◌, get_or, length, length-map-range_with_len, get_or-map-range_with_len, ◌<◌, map, refl, sym, ap, subst, ◌∙◌, arith, All, if◌then◌else◌, flat_map}
 use Rattle.nc_base.specs.Sizes.{record_count, record_size}
 use Rattle.nccheck_laws.specs.ErrorLaws.{ApartSlabsHaveValuesApart, HaveOwnBytes, ValuePlace, value_place, value_places, variable_places}
 use Rattle.nccheck_laws.proofs.HeaderRecords.{count-is, size-is}

@@ -1,5 +1,5 @@
 -- No finding has a kind that stops a dump exactly if the file holds a dataset, and exactly if the dump of all values is whole.
-use Rattle.nccheck_laws.proofs.Prelude.{Var, Bytes, SpellsHeader, strict, spelled-layout, Header, Fact, Finding, Report, IsReport, HasNoFault, is_fault, is_missing, list_any, list_any_none, All-cons, All-head, All-nil, All-tail, IsSoundSlot, file_of, first_missing, concat, Dataset, HoldsDataset, bare, stored_bytes, file-holds, FindsWholeFile, ShowsAllValues, WholeFilesHoldDatasets, WholeReportsAreDumped, GeneratedFilesAreFoundWhole, ◌≡◌, Bool, true, false, not, List, [], ◌∷◌, length, map, None, refl, sym, ap, arith, subst, ◌∙◌, All, if◌then◌else◌}
+use Rattle.nccheck_laws.proofs.Prelude.{Var, Bytes, SpellsHeader, strict, spelled-layout, Header, Fact, Finding, Report, IsReport, HasNoFault, is_fault, is_missing, list_any_none, IsSoundSlot, file_of, first_missing, concat, Dataset, HoldsDataset, bare, stored_bytes, file-holds, FindsWholeFile, ShowsAllValues, WholeFilesHoldDatasets, WholeReportsAreDumped, GeneratedFilesAreFoundWhole, ◌≡◌, Bool, true, false, not, length, map, None, refl, sym, ap, arith, subst, ◌∙◌, All, if◌then◌else◌}
 use Rattle.std.proofs.Common.{get_or, ◌||◌}
 use Rattle.std.proofs.lemmas.List.Folds.{list_any_at}
 use Rattle.nc_base.specs.Dump.{Options, Ending, whole, IsDump, stopped, unknown, shown}
