@@ -219,8 +219,8 @@ verdict new_since_yesterday 0
 run cat yesterday
 stdout "$found${found//f.nc/g.nc}"
 verdict what_is_yesterday_tomorrow 0
-run sed 's/cannot open.*/cannot open/' trouble
-stdout 'nccheck: ./dir.nc: cannot open\n'
+run cat trouble
+stdout 'nccheck: ./dir.nc: cannot open: not a regular file\n'
 verdict what_could_not_be_checked 0
 # A file that cannot be opened for a night is in `trouble`, and its line is new when it can be opened again.
 mv g.nc away && mkdir g.nc

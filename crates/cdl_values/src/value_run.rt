@@ -5,7 +5,7 @@ ghost use Rattle.cdl_statements.specs.code.Cutters.{is_done};
 ghost use Rattle.cdl_statements.specs.code.ListedTokens.{EndsAtScanner, IsAtComma};
 ghost use Rattle.cdl_values.specs.code.PackedValues.{capacity_minus};
 ghost use Rattle.cdl_statements.specs.code.ValueLists.{reached};
-ghost use Rattle.cdl_values.specs.code.ValueRuns.{GoesTo, IfTaken, TakesOne, TakesPlain, TakesRows, TakesTo, place};
+ghost use Rattle.cdl_values.specs.code.ValueRuns.{GoesTo, IfTaken, TakesOne, TakesPlain, TakesRows, TakesTo, list_place, place};
 
 use crate::capacity::Capacity;
 use crate::fill::Fill;
@@ -221,7 +221,8 @@ fn put_rows(
     fill: u8,
 ) -> Result<u64, ReadError>
     requires { IsAtComma (reached list.old) }
-    ensures { IfOk result (TakesRows room len fill list.old list.new array.old array.new) }
+    ensures { IfOk result (TakesRows room (ValueForm.Rows len fill) (list_place list.old array.old)
+        (list_place list.new array.new)) }
 {
     let mut count = 0;
     'rows: while count < room {

@@ -7,7 +7,7 @@ use Rattle.cdl_statements.specs.code.ValueLists.{reached}
 use Rattle.cdl_statements.specs.code.PassedValues.{PassesGood}
 use Rattle.cdl_statements.specs.declared.{cutter.Cutter.Cutter, value_list.ValueList.ValueList, due.Due.Due, due.Due.TheVariants.Separator}
 use Rattle.cdl_values.specs.code.PackedValues.{capacity_minus, is_full, joined, packed}
-use Rattle.cdl_values.specs.declared.{capacity.Capacity.Capacity, fill.Fill.Fill, form.ValueForm.ValueForm, form.ValueForm.TheVariants.{Numbers, Rows}, read_error.ReadError.ReadError, value.QuickPassFault.QuickPassFault, value_run.UnreadValues.UnreadValues}
+use Rattle.cdl_values.specs.declared.{capacity.Capacity.Capacity, fill.Fill.Fill, form.ValueForm.ValueForm, form.ValueForm.TheVariants.Numbers, read_error.ReadError.ReadError, value.QuickPassFault.QuickPassFault, value_run.UnreadValues.UnreadValues}
 
 -- A place among the values of a statement: the bytes of those before it, and what capacity is left.
 pub record Place : Type 0 where
@@ -36,17 +36,19 @@ GoesTo due form start bytes result = IfOk result (λ rest. GoesOn due form start
 abbrev pub TakesTo : Bool → ValueForm → Place → List ℕ → Result UnreadValues QuickPassFault → Type 0
 TakesTo takes_fill form start bytes result = IfOk result (λ rest. TakesValues takes_fill form start (place rest bytes))
 
+-- the place where a list stands
+abbrev pub list_place : ValueList → List ℕ → Capacity → Place
+list_place list bytes left = record { cutter = reached list; bytes = bytes; left = left }
+
 -- one value more of a list, with the bytes before it and after it; a variable of numbers takes it if it takes any
 abbrev pub TakesOne : Bool → Fill → ValueList → ValueList → List ℕ → List ℕ → Type 0
 TakesOne takes_fill fill start rest before after =
-    (left : Capacity) → is_full left ≡ false →
-    TakesValues takes_fill (Numbers fill) (record { cutter = reached start; bytes = before; left = left }) (record { cutter = reached rest; bytes = after; left = capacity_minus 1 left })
+    (left : Capacity) → is_full left ≡ false → TakesValues takes_fill (Numbers fill) (list_place start before left) (list_place rest after (capacity_minus 1 left))
 
--- so many rows more of a list, with the bytes before them and after them; a variable of rows takes them if it takes so many
-abbrev pub TakesRows : ℕ → ℕ → ℕ → ValueList → ValueList → List ℕ → List ℕ → ℕ → Type 0
-TakesRows room len fill start rest before after count =
-    (takes_fill : Bool) (left : Capacity) → ((k : ℕ) → k < room → is_full (capacity_minus k left) ≡ false) →
-    TakesValues takes_fill (Rows len fill) (record { cutter = reached start; bytes = before; left = left }) (record { cutter = reached rest; bytes = after; left = capacity_minus count left })
+-- from one place to another, `count` rows more of a list; a variable takes them if it takes `room` rows
+abbrev pub TakesRows : ℕ → ValueForm → (Capacity → Place) → (Capacity → Place) → ℕ → Type 0
+TakesRows room form start rest count =
+    (takes_fill : Bool) (left : Capacity) → ((k : ℕ) → k < room → is_full (capacity_minus k left) ≡ false) → TakesValues takes_fill form (start left) (rest (capacity_minus count left))
 
 -- if the answer is that there is one
 abbrev pub IfTaken : Type 0 → Result Bool ReadError → Type 0

@@ -1,8 +1,7 @@
 use Rattle.cdl_values.proofs.Prelude.{Characters, joined, capacity_minus, row_bytes, Rows, rules, arith, ◌≡◌, ◌+◌, false, sym, subst, Ok}
-use Rattle.cdl_statements.specs.code.ValueLists as lists
 use Rattle.cdl_statements.specs.declared.{value_list.ValueList.ValueList}
-use Rattle.cdl_values.specs.code.ValueRuns.{TakesRows}
-use Rattle.cdl_values.proofs.ValueRuns.{ended, reached, row_on, stays, takes_further}
+use Rattle.cdl_values.specs.code.ValueRuns.{TakesRows, list_place}
+use Rattle.cdl_values.proofs.ValueRuns.{ended, row_on, stays, takes_further}
 use Rattle.cdl_values.proofs.value_run.put_rows.Goals as goal
 
 pub rows-init : goal.rows-init
@@ -19,9 +18,9 @@ rows-preserved c =
     record {
       at = e.passes.passes.at;
       so = λ takes_fill left room.
-          let start = reached (lists.reached a.list.now) a.array.now left in
-          let here = reached (lists.reached l.list) l.array (capacity_minus l.count left) in
-          let there = reached (lists.reached c.string_and_comma.new.self) new (capacity_minus (l.count + 1) left) in
+          let start = list_place a.list.now a.array.now left in
+          let here = list_place l.list l.array (capacity_minus l.count left) in
+          let there = list_place c.string_and_comma.new.self new (capacity_minus (l.count + 1) left) in
           takes_further takes_fill (Rows a.len a.fill) start here there (l.invariant.so takes_fill left room) (row_on takes_fill a.len a.fill here there n l.invariant.at e.passes (room l.count c.rows-test.true) adds (grind arith));
     }
 
@@ -29,4 +28,4 @@ pub returns-in_default : goal.returns-in_default
 returns-in_default c =
     let a = c.args in
     let l = c.rows in
-    subst (λ (list : ValueList). TakesRows a.room a.len a.fill a.list.now list a.array.now l.array l.count) (sym (c.string_and_comma.ensures.stays c.in_default.is)) l.invariant.so
+    subst (λ (list : ValueList). TakesRows a.room (Rows a.len a.fill) (list_place a.list.now a.array.now) (list_place list l.array) l.count) (sym (c.string_and_comma.ensures.stays c.in_default.is)) l.invariant.so
