@@ -90,15 +90,6 @@ parts-one : (piece : List ℕ) → concat_parts (piece ∷ []) ≡ piece
 unfolding concat_parts
 parts-one piece = append-nil piece
 
--- ---- a text of many pieces, by hand: the first piece, and then the others
-pub appended_piece : {s t u : SinkView} {piece : List ℕ} (pieces : List (List ℕ)) → Appended s t piece → Appended t u (concat_parts pieces) → Appended s u (concat_parts (piece ∷ pieces))
-unfolding concat_parts
-appended_piece {s = s} {t = t} {u = u} {piece = piece} pieces first others = appended_then s t u piece (concat_parts pieces) first others
-
--- the last piece
-pub appended_last : {s t : SinkView} {piece : List ℕ} → Appended s t piece → Appended s t (concat_parts (piece ∷ []))
-appended_last {s = s} {t = t} {piece = piece} appended = subst (Appended s t) (sym (parts-one piece)) appended
-
 -- the invariant of a loop that writes one text for each element
 abbrev pub IsWritten : {X : Type 0} → SinkView → SinkView → (X → List ℕ) → List X → ℕ → Type 0
 IsWritten old now f xs i = Appended old now (concat_parts (map f (take i xs)))

@@ -15,9 +15,6 @@ at-split {A = A} P all prefix x back is holds = following prefix (subst (All P) 
 pub total-append : (dims : List Dim) (xs ys : List Var) → padded_total dims (record_vars dims (xs ++ ys)) ≡ padded_total dims (record_vars dims xs) + padded_total dims (record_vars dims ys)
 total-append dims xs ys = grind (arith, filter-append, sum-map, sum_by-append)
 
-pub some-limit : (v : Version) → 0 < count_limit v
-some-limit v = grind arith
-
 none-here : (b : Bool) (dim : Dim) (dims : List Dim) → (length (filter (λ (d : Dim). d.len == 0) dims) ≡ 0 → has_record_dim dims ≡ false)
     → length (cond b (dim ∷ filter (λ (d : Dim). d.len == 0) dims) (filter (λ (d : Dim). d.len == 0) dims)) ≡ 0 → (b || has_record_dim dims) ≡ false
 none-here b dim dims h h2 = grind arith

@@ -1,17 +1,9 @@
 -- The fields that are one number.
-use Rattle.nc_fields.proofs.Prelude.{Bytes, number, Place, Number, number_in, IsNumeric, Step, Cut, steps_of, whole_content, cut_content, Version, byte_len, from_be_bytes, Magic, kept_letters, NumberWidth, ◌≡◌, ℕ, List, ◌∷◌, take, refl, ap, ◌∙◌}
-use Rattle.nc_base.specs.declared.version.Version.TheVariants.{Cdf1, Cdf2, Cdf5}
-use Rattle.nc_base.specs.Versions.{count_width}
+use Rattle.nc_fields.proofs.Prelude.{Bytes, number, Place, Number, number_in, IsNumeric, Step, Cut, steps_of, whole_content, cut_content, byte_len, from_be_bytes, Magic, kept_letters, NumberWidth, ◌≡◌, ℕ, List, ◌∷◌, take, refl, ap, ◌∙◌}
 use Rattle.nc_fields.specs.declared.entry.Content.TheVariants as content
 use Rattle.nc_fields.specs.declared.number.NumberWidth.TheVariants.{Four, Eight}
 use Rattle.nc_fields.specs.code.Numbers.{width_of}
 use Rattle.nc_fields.proofs.Checks.{IsFieldOf, number-matters}
-
--- a number of as many bytes as counts have
-pub number-in_count : (v : Version) (bs : Bytes) → number_in (byte_len (count_width v)) bs ≡ from_be_bytes (count_width v) bs
-number-in_count Cdf1 bs = refl
-number-in_count Cdf2 bs = refl
-number-in_count Cdf5 bs = refl
 
 number-in : (w : NumberWidth) (bs : Bytes) → number_in (byte_len (width_of w)) bs ≡ from_be_bytes (width_of w) bs
 number-in Four bs = refl
