@@ -39,7 +39,6 @@ pub struct SlabPlace {
 /// Appends the findings at the end of the file: it lacks values or padding, or has bytes after them. Needs a sound layout (within the
 /// limits), its `records`, and `extents`, the blocks of the layout: each variable that isn't a record variable has one, and all records
 /// together are one. Errs only if an allocation fails.
-#[tactic(auto, unfolding(crate::specs::FileEnd::end_findings))]
 pub(crate) fn push_end_findings(
     found: &mut Sequence<LayoutFinding>,
     layout: &FileLayout,
