@@ -1,5 +1,5 @@
 -- What readers of parts do that list their fields: for a part that is one field, and for parts that are made of others.
-use Rattle.nc_fields.proofs.Prelude.{Ghosts, Bytes, Step, Part, done, bytes, decoded, under, chain, Outcome, and_then, with_rest, run, left_after, number, FormatFault, HeaderTruncated, Read, Reads, Kept, FailsOnly, left, next_of, source_of, HeadFault, Window, Format, OutOfMemory, ReadFailed, Entry, Content, Place, Reader, PendingField, Cut, Field, judged, fields, Seen, seen_by, steps_of, whole_content, cut_content, seen, Checked, Lists, IsStart, ListsCut, entry_of, listed, with_fault, OnTrue_at, OnTrue_from, le-ltb, lt-ltb, leb-true, leb-false, append-nil, length-drop, map-append, Width, byte_len, from_be_bytes, to_be_bytes, run-done, run-under, run-decoded, run-chain, left_after-ok, left_after-err, after-decoded, after-chain, shorter, ◌≡◌, ℕ, ◌-◌, Bool, true, false, cond, leb, nat_lt, List, [], ◌∷◌, ◌++◌, length, map, take, drop, Option, Some, None, Result, Ok, Err, refl, sym, inl, inr, ap, ◌∙◌, subst, arith, append_assoc}
+use Rattle.nc_fields.proofs.Prelude.{Ghosts, Bytes, Step, Part, done, bytes, decoded, under, chain, Outcome, and_then, with_rest, run, left_after, number, FormatFault, HeaderTruncated, Read, Reads, Kept, FailsOnly, left, next_of, source_of, HeadFault, Window, Format, OutOfMemory, ReadFailed, Entry, Content, Place, Reader, PendingField, Cut, Field, judged, fields, Seen, seen_by, steps_of, whole_content, cut_content, seen, Checked, Lists, IsStart, ListsCut, entry_of, listed, with_fault, OnTrue_at, OnTrue_from, le-ltb, lt-ltb, leb-true, leb-false, append-nil, length-drop, map-append, Width, byte_len, from_be_bytes, to_be_bytes, run-done, run-under, run-decoded, run-chain, left_after-ok, left_after-err, after-decoded, after-chain, IsErrAnd, err_from_is_err_and, ◌≡◌, ℕ, ◌-◌, Bool, true, false, cond, nat_lt, List, [], ◌∷◌, ◌++◌, length, map, take, Option, Some, None, Result, Ok, Err, refl, sym, inl, inr, ap, ◌∙◌, subst, arith, append_assoc}
 
 -- ---- parts that are one field
 
@@ -14,12 +14,7 @@ IsField size p = (steps : List Step) (from : Bytes) → fields steps p from ≡ 
 
 pub bytes-field : (n : ℕ) (cut : FormatFault) → IsField n (bytes n cut)
 unfolding fields run
-bytes-field n cut steps from = by-test (leb n (length from))
-  where
-    by-test : (b : Bool) → ◌≡◌ {A = List Field} (record { steps = steps; start = from; size = n; fault = cond b None (Some cut) } ∷ [])
-        (record { steps = steps; start = from; size = n; fault = fault_in {A = Bytes} (cond b (Ok (take n from, drop n from)) (Err (cut, []))) } ∷ [])
-    by-test true = refl
-    by-test false = refl
+bytes-field n cut steps from = grind arith
 
 judged-field : {A B : Type 0} (steps : List Step) (from : Bytes) (size : ℕ) (decode : A → Result B FormatFault) (o : Outcome A)
     → ◌≡◌ {A = List Field} (elim o as (λ o. List Field) [
@@ -27,13 +22,7 @@ judged-field : {A B : Type 0} (steps : List Step) (from : Bytes) (size : ℕ) (d
       | Err e ↦ record { steps = steps; start = from; size = size; fault = fault_in o } ∷ []
     ])
     (record { steps = steps; start = from; size = size; fault = fault_in (and_then o (λ x rest. with_rest (decode x) rest)) } ∷ [])
-judged-field {B = B} steps from size decode (Ok x) = by-answer (decode x.0)
-  where
-    by-answer : (y : Result B FormatFault) → ◌≡◌ {A = List Field} (judged y (record { steps = steps; start = from; size = size; fault = None } ∷ []))
-        (record { steps = steps; start = from; size = size; fault = fault_in (with_rest y x.1) } ∷ [])
-    by-answer (Ok z) = refl
-    by-answer (Err f) = refl
-judged-field steps from size decode (Err e) = refl
+judged-field steps from size decode o = grind arith
 
 pub decoded-field : {A B : Type 0} (decode : A → Result B FormatFault) (encode : B → A) (p : Part A) (size : ℕ) → IsField size p → IsField size (decoded decode encode p)
 unfolding fields run
@@ -72,13 +61,7 @@ pub listed-chain : {A B : Type 0} (len : ℕ) (before : List Seen) (steps : List
     → listed len before steps (chain get p next) from
     ≡ list_then (run p from) (listed len before steps p from) (λ x middle. listed len (listed len before steps p from) steps (next x) middle)
 unfolding listed fields
-listed-chain {A = A} len before steps get p next from = by-outcome (run p from)
-  where
-    by-outcome : (o : Outcome A)
-        → before ++ map (seen len) (elim o as (λ o. List Field) [ Ok x ↦ fields steps p from ++ fields steps (next x.0) x.1 | Err e ↦ fields steps p from ])
-        ≡ list_then o (before ++ map (seen len) (fields steps p from)) (λ x middle. (before ++ map (seen len) (fields steps p from)) ++ map (seen len) (fields steps (next x) middle))
-    by-outcome (Ok x) = ap (λ fs. before ++ fs) (map-append (seen len) (fields steps p from) (fields steps (next x.0) x.1)) ∙ sym (append_assoc before _ _)
-    by-outcome (Err e) = refl
+listed-chain len before steps get p next from = grind (arith, map-append, append_assoc)
 
 -- a fault at the last field
 pub with_fault-last : (fault : FormatFault) (fs : List Seen) (f : Seen) → with_fault fault (fs ++ f ∷ []) ≡ fs ++ record f { fault = Some fault } ∷ []
@@ -86,9 +69,6 @@ unfolding with_fault
 with_fault-last fault [] f = refl
 with_fault-last fault (g ∷ []) f = refl
 with_fault-last fault (g ∷ h ∷ fs) f = ap (λ fs. g ∷ fs) (with_fault-last fault (h ∷ fs) f)
-
-abbrev field_of : List Step → Bytes → ℕ → Option FormatFault → Field
-field_of steps from size fault = record { steps = steps; start = from; size = size; fault = fault }
 
 pub faulted-none : (fault : FormatFault) → with_fault fault [] ≡ []
 unfolding with_fault
@@ -111,21 +91,8 @@ pub listed-decoded : {A B : Type 0} (len : ℕ) (before : List Seen) (steps : Li
     → listed len before steps (decoded decode encode p) from
     ≡ list_then (run p from) (listed len before steps p from) (λ x rest. list_answer (decode x) (listed len before steps p from))
 unfolding listed seen run
-listed-decoded {A = A} {B = B} len before steps decode encode p from is =
-    let f = one-field p is in
-    ap (λ fs. before ++ map (seen len) fs) (decoded-field decode encode p f.0 f.1 steps from) ∙ by-outcome f.0 (run p from)
-    ∙ sym (ap (λ fs. list_then (run p from) (before ++ map (seen len) fs) (λ x rest. list_answer (decode x) (before ++ map (seen len) fs))) (f.1 steps from))
-  where
-    by-answer : (size : ℕ) (y : Result B FormatFault) (rest : Bytes)
-        → before ++ map (seen len) (field_of steps from size (fault_in (with_rest y rest)) ∷ []) ≡ list_answer y (before ++ map (seen len) (field_of steps from size None ∷ []))
-    by-answer size (Ok y) rest = refl
-    by-answer size (Err fault) rest = sym (with_fault-last fault before (seen len (field_of steps from size None)))
-
-    by-outcome : (size : ℕ) (o : Outcome A)
-        → before ++ map (seen len) (field_of steps from size (fault_in (and_then o (λ x rest. with_rest (decode x) rest))) ∷ [])
-        ≡ list_then o (before ++ map (seen len) (field_of steps from size (fault_in o) ∷ [])) (λ x rest. list_answer (decode x) (before ++ map (seen len) (field_of steps from size (fault_in o) ∷ [])))
-    by-outcome size (Ok x) = by-answer size (decode x.0) x.1
-    by-outcome size (Err e) = refl
+listed-decoded len before steps decode encode p from is =
+    let f = one-field p is in grind (arith, decoded-field decode encode p f.0 f.1 steps from, f.1 steps from, with_fault-last)
 
 -- ---- a field that is read
 
@@ -148,13 +115,7 @@ pub record Matters (place : Place) (n : ℕ) (content : Bytes → Content) : Typ
 matters-in : (place : Place) (n : ℕ) (cut : FormatFault) (content : Bytes → Content) (from : Bytes) → Matters place n content
     → cond (nat_lt (length from) n) (cut_content (steps_of place) from) (whole_content (steps_of place) n from) ≡ content_in content (run (bytes n cut) from)
 unfolding run
-matters-in place n cut content from is = by-test (leb n (length from)) refl
-  where
-    by-test : (b : Bool) → leb n (length from) ≡ b
-        → cond (nat_lt (length from) n) (cut_content (steps_of place) from) (whole_content (steps_of place) n from)
-        ≡ content_in {C = Bytes} content (cond b (Ok (take n from, drop n from)) (Err (cut, [])))
-    by-test true e = rw (le-ltb _ _ (leb-true n (length from) e)) (is.whole from)
-    by-test false e = rw (lt-ltb _ _ (leb-false n (length from) e)) (is.cut from)
+matters-in place n cut content from is = grind (arith, leb-true, leb-false, le-ltb, lt-ltb, is.whole from, is.cut from)
 
 pub bytes-listed : {place : Place} {n : ℕ} {content : Bytes → Content} (cut : FormatFault) → Matters place n content → IsFieldOf place n (bytes n cut) content
 bytes-listed {place = place} {n = n} {content = content} cut is = record { field = bytes-field n cut; matters = λ from. matters-in place n cut content from is }
@@ -184,6 +145,10 @@ listed-one len before place {size = size} q {content = content} from is matters 
     ∙ ap (λ o. before ++ seen_at place (len - length from) size content (fault_in o) ∷ []) e
 
 module _ {S : Type 0} {g : Ghosts S} where
+  -- what holds of a failure holds of a result that is it
+  pub failed : {A : Type 0} {old new : Reader S g} {steps : List Step} {p : Part A} {e : HeadFault} {result : Result A HeadFault} → IsErrAnd result (λ y. y ≡ e) → Checked {A = A} old new steps p (Err e) → Checked old new steps p result
+  failed {result = result} is c = let q = err_from_is_err_and result is in rw (q.1, q.2) c
+
   offset-left : (w : Window S g) → length (source_of w).bytes - length (left w) ≡ next_of w
   offset-left w = omega (arith, length-drop (next_of w) (source_of w).bytes, w.within, w.used)
 

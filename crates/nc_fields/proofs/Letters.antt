@@ -1,5 +1,5 @@
 -- The letters at the start of a file, of which fewer than three may be there.
-use Rattle.nc_fields.proofs.Prelude.{take_min, drop_min, bytes_eq, Magic, Caused, Reads, hdf5_signature, kept_letters, kept-then, Ghosts, Bytes, Part, bytes, checked, Outcome, and_then, with_rest, run, left_after, FormatFault, HeaderTruncated, NotNetcdf, Read, left, HeadFault, Window, Format, OutOfMemory, ReadFailed, Entry, Content, Place, Reader, PendingField, entry_of, Checked, IsStart, ListsCut, with_fault, OnTrue, OnTrue_at, OnTrue_from, leb-true, leb-false, Kept, Step, listed, next_of, source_of, seen_by, Lists, shorter, left_after-ok, ◌≡◌, ℕ, ◌<◌, ◌≤◌, min, Bool, true, false, cond, leb, nat_lt, if◌then◌else◌, List, [], ◌∷◌, None, ◌-◌, length, take, drop, length-take, map, ◌++◌, Result, Ok, Err, subst, refl, sym, ap, ap₂, ◌∙◌, arith, take_all, codes}
+use Rattle.nc_fields.proofs.Prelude.{take_min, drop_min, bytes_eq, Magic, Caused, Reads, hdf5_signature, kept_letters, kept-then, Ghosts, Bytes, Part, bytes, checked, Outcome, with_rest, run, left_after, FormatFault, HeaderTruncated, NotNetcdf, Read, left, HeadFault, Window, Format, OutOfMemory, ReadFailed, Entry, Content, Place, Reader, PendingField, entry_of, Checked, IsStart, ListsCut, with_fault, OnTrue, OnTrue_at, OnTrue_from, leb-true, leb-false, Kept, Step, listed, next_of, source_of, seen_by, Lists, shorter, left_after-ok, ◌≡◌, ℕ, ◌<◌, ◌≤◌, min, Bool, true, cond, nat_lt, if◌then◌else◌, List, [], ◌∷◌, None, ◌-◌, length, take, drop, length-take, map, ◌++◌, Result, Ok, Err, subst, refl, sym, ap, ◌∙◌, arith, take_all, codes}
 use Rattle.std.proofs.lemmas.Bool.Decides.{nat_tests}
 use Rattle.std.proofs.lemmas.Grind.{common_steps}
 use Rattle.std.specs.Cmp.Lexicographic.{bytes_decides}

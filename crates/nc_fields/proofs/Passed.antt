@@ -1,5 +1,5 @@
 -- Values that are passed over, piece by piece.
-use Rattle.nc_fields.proofs.Prelude.{Ghosts, Window, HeadFault, Format, OutOfMemory, ReadFailed, Bytes, left, next_of, OnTrue, OnTrue_at, OnTrue_from, drop-drop, source_of, ends_with_nul, Entry, PendingField, ListsCut, get_or-append_right, Progress, IsAdvanced, Stopped, on-by, chunk-next, read-content, stop-bytes, Ready, in_place, PassesValues, ◌≡◌, ℕ, ◌+◌, ◌≤◌, ◌<◌, Bool, false, List, [], ◌++◌, length, take, drop, Result, Ok, Err, IfOk, refl, sym, ap, subst, ◌∙◌, arith, rules, inl, inr, length-append}
+use Rattle.nc_fields.proofs.Prelude.{Ghosts, Window, HeadFault, Format, OutOfMemory, ReadFailed, Bytes, left, next_of, OnTrue, OnTrue_at, OnTrue_from, drop-drop, source_of, ends_with_nul, Entry, PendingField, ListsCut, get_or-append_right, Progress, IsAdvanced, Stopped, on-by, chunk-next, read-content, stop-bytes, Ready, in_place, PassesValues, ◌≡◌, ℕ, ◌+◌, ◌≤◌, ◌<◌, Bool, List, [], ◌++◌, length, take, drop, Result, Ok, Err, IfOk, sym, ap, subst, ◌∙◌, arith, rules, inl, inr, length-append}
 
 -- ---- pieces
 

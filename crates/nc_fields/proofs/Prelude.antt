@@ -1,8 +1,8 @@
 -- The names that proofs of this crate cite from elsewhere, passed on from one place.
 pub use Rattle.devices.specs.declared.{source.Source.Ghosts}
-pub use Rattle.nc_base.specs.Bytes.{Bytes}
-pub use Rattle.nc_base.specs.Grammar.{att_after, checked, dim_after, dimid_after, dimid_part, first, header_by, var_after, var_part}
-unfoldable pub use Rattle.nc_base.specs.Grammar.{dim_part, each, ignored, list_head, number}
+pub use Rattle.nc_base.specs.Bytes.{Bytes, padding_len}
+pub use Rattle.nc_base.specs.Grammar.{att_after, checked, dim_after, dimid_after, first, var_after}
+unfoldable pub use Rattle.nc_base.specs.Grammar.{att_part, dim_part, dimid_part, each, header_by, ignored, list_head, number, var_part}
 pub use Rattle.nc_base.specs.Parts.{Dims, Item, Magic, Part, Shape, Step, Vars, bytes, chain, decoded, done, under}
 pub use Rattle.nc_base.specs.Sizes.{has_record_dim}
 pub use Rattle.nc_base.specs.code.PartRuns.{Outcome, and_then, with_rest}
@@ -25,10 +25,11 @@ pub use Rattle.nc_file.proofs.Totals.{total_of, total_of-append}
 pub use Rattle.nc_file.specs.code.Window.{Caused, FailsOnly, Kept, Read, Reads, Ready, left, next_of, source_of}
 pub use Rattle.nc_file.specs.declared.{head_fault.HeadFault.HeadFault, window.Window.Window}
 pub use Rattle.nc_file.specs.declared.head_fault.HeadFault.TheVariants.{Format, OutOfMemory, ReadFailed}
-pub use Rattle.std.proofs.Common.{Bool, Err, IfOk, List, None, Ok, Option, Result, Some, [], ap, append_assoc, ap₂, arith, codes, cond, drop, false, if◌then◌else◌, inl, inr, leb, length, length-append, length-take, map, min, nat_lt, refl, rules, slice_index, subst, suc, sym, take, take-take, take_all, true, ℕ, ◌++◌, ◌+◌, ◌-◌, ◌<◌, ◌==◌, ◌∙◌, ◌∷◌, ◌≡◌, ◌≤◌}
+pub use Rattle.std.proofs.Common.{Bool, Err, IfOk, List, None, Ok, Option, Result, Some, [], ap, append_assoc, ap₂, arith, codes, cond, drop, false, if◌then◌else◌, inl, inr, leb, length, length-append, length-take, map, min, nat_lt, refl, rules, slice_index, subst, suc, sym, take, take-take, take_all, true, ℕ, ◌++◌, ◌*◌, ◌+◌, ◌-◌, ◌<◌, ◌==◌, ◌∙◌, ◌∷◌, ◌≡◌, ◌≤◌}
 pub use Rattle.std.proofs.lemmas.Bool.{OnTrue_at, OnTrue_from, le-ltb, leb-false, leb-true, lt-ltb}
 pub use Rattle.std.proofs.lemmas.List.{append-nil, drop-drop, drop_min, get_or-append_right, length-drop, map-append, take-append-le, take_min}
 pub use Rattle.std.proofs.lemmas.Result.{err_from_is_err_and}
 pub use Rattle.std.specs.Bool.{OnTrue}
 pub use Rattle.std.specs.Int.{Width, byte_len, from_be_bytes, to_be_bytes}
+pub use Rattle.std.specs.Result.{IsErrAnd}
 pub use Rattle.std.specs.Str.{bytes_eq}

@@ -49,7 +49,6 @@ impl FieldReader {
 
     /// Reads an attribute (`owner`), adds its fields to the field list, and returns it without its values. Errs with the fault of the first
     /// wrong field, and if the source or an allocation fails.
-    #[tactic(auto, using(crate::proofs::Checks::chain_lists), unfolding(nc_base::specs::Grammar::att_part))]
     fn att<S: Source>(
         &mut self,
         window: &mut Window<'_, S>,

@@ -219,7 +219,6 @@ impl FieldReader {
 
     /// Reads the whole header, adds its fields to the field list, and returns it without the values of attributes. Errs with the fault of
     /// the first wrong field, and if the source or an allocation fails. Needs a buffer with room for the next eight bytes.
-    #[tactic(auto, using(crate::proofs::Checks::chain_lists), unfolding(nc_base::specs::Grammar::header_by))]
     fn header<S: Source>(
         &mut self,
         window: &mut Window<'_, S>,

@@ -106,7 +106,7 @@ impl FieldReader {
     /// Reads the variable of this number, from 0, adds its fields to the field list, and returns it, without the values of its attributes,
     /// and with the bytes of the padded slabs of all record variables up to and including it. `total` is the bytes of those before it. Errs
     /// with the fault of the first wrong field, and if the source or an allocation fails.
-    #[tactic(auto, using(crate::proofs::Checks::chain_lists), unfolding(nc_file::specs::code::SizedVars::total_with, nc_base::specs::Grammar::var_part))]
+    #[tactic(auto, unfolding(nc_file::specs::code::SizedVars::total_with))]
     fn var<S: Source>(
         &mut self,
         window: &mut Window<'_, S>,

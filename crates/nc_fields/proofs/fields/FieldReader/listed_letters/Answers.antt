@@ -1,15 +1,14 @@
-use Rattle.nc_fields.proofs.Prelude.{err_from_is_err_and, ap}
+use Rattle.nc_fields.proofs.Prelude.{ap}
 use Rattle.nc_fields.specs.declared.entry.Content.TheVariants as content
 use Rattle.nc_fields.proofs.Letters.{letters-answer, listed-letters, letters-memory, cut-letters}
+use Rattle.nc_fields.proofs.Checks.{failed}
 use Rattle.nc_fields.proofs.fields.FieldReader.listed_letters.Goals as goal
 
 pub returns-in_err-letters : goal.returns-in_err-letters
-returns-in_err-letters g c =
-    let p = err_from_is_err_and c.from_residual.result c.from_residual.ensures.1 in rw (p.1, p.2) (cut-letters _ c.letters_there-there.ensures c.filling_bytes.ensures c.in_err-letters.ensures)
+returns-in_err-letters g c = failed c.from_residual.ensures.1 (cut-letters _ c.letters_there-there.ensures c.filling_bytes.ensures c.in_err-letters.ensures)
 
 pub returns-in_err-list : goal.returns-in_err-list
-returns-in_err-list g c =
-    let p = err_from_is_err_and c.from_residual-in_err-list.result c.from_residual-in_err-list.ensures.1 in rw (p.1, p.2) (letters-memory c.letters_there-there.ensures c.filling_bytes.ensures c.in_ok-letters.ensures.0)
+returns-in_err-list g c = failed c.from_residual-in_err-list.ensures.1 (letters-memory c.letters_there-there.ensures c.filling_bytes.ensures c.in_ok-letters.ensures.0)
 
 pub returns : goal.returns
 returns g c =
