@@ -1,14 +1,10 @@
-use Rattle.nc_report.proofs.Prelude.{IsPermutation, IsPermutation-append_right, Finding, header_findings, ◌≡◌, List, [], ◌++◌, sym, ◌∙◌, ap, subst}
+use Rattle.nc_report.proofs.Prelude.{IsPermutation, IsPermutation-append_right, Finding, header_findings, ◌≡◌, List, [], ◌++◌, sym, subst, arith, append_assoc}
 use Rattle.nc_report.proofs.header_rules.header_findings.Goals as goal
 
 -- what has been appended part by part, the last part in another order
 appended : (a b c d found start one two three : List Finding) → start ≡ [] → one ≡ start ++ a → two ≡ one ++ b → three ≡ two ++ c
     → IsPermutation d found → IsPermutation (a ++ b ++ c ++ d) (three ++ found)
-appended a b c d found start one two three is0 is1 is2 is3 same =
-    let first : one ≡ a = is1 ∙ ap (λ (xs : List Finding). xs ++ a) is0 in
-    let all : three ≡ a ++ b ++ c = is3 ∙ ap (λ (xs : List Finding). xs ++ c) (is2 ∙ ap (λ (xs : List Finding). xs ++ b) first) in
-    subst (λ (xs : List Finding). IsPermutation (a ++ b ++ c ++ d) (xs ++ found)) (sym all)
-    (IsPermutation-append_right (a ++ b ++ c) d found same)
+appended a b c d found start one two three is0 is1 is2 is3 same = grind (arith, append_assoc, IsPermutation-append_right (a ++ b ++ c) d found same)
 
 pub returns : goal.returns
 unfolding header_findings

@@ -1,4 +1,4 @@
-use Rattle.nc_report.proofs.Prelude.{option_to_list, Entry, Finding, Indexed, field_at, indexed, indexed_from, each_after, duplicate_name, first_index, ◌≡◌, ◌+◌, ◌∷◌, [], ◌++◌, List, take, drop, ap, sym, ◌∙◌, append_assoc, Option}
+use Rattle.nc_report.proofs.Prelude.{option_to_list, Entry, Finding, field_at, indexed, indexed_from, duplicate_name, first_index, ◌≡◌, ◌+◌, ◌∷◌, [], ◌++◌, List, take, drop, ap, sym, ◌∙◌, append_assoc, arith, Option}
 use Rattle.nc_report.proofs.IndexedLists.{rest, indexed-take}
 use Rattle.nc_report.proofs.name_rules.push_name_findings.Goals as goal
 
@@ -20,8 +20,5 @@ loop-i-preserved c =
     ∙ ap (λ (o : Option Finding). found ++ option_to_list o) (c.in_ok-duplicate.ensures.finding earlier c.loop-i.invariant.names) in
     record {
       names = λ key. c.in_ok-duplicate.ensures.names earlier c.loop-i.invariant.names key ∙ ap (first_index key) (sym more);
-      found = ap (λ (fs : List Indexed). now ++ each_after duplicate_name fs later) more
-          ∙ ap (λ (xs : List Finding). xs ++ each_after duplicate_name (earlier ++ f ∷ []) later) pushed
-          ∙ append_assoc found (option_to_list here) (each_after duplicate_name (earlier ++ f ∷ []) later)
-          ∙ ap (λ (fs : List Indexed). found ++ each_after duplicate_name earlier fs) (sym next) ∙ c.loop-i.invariant.found;
+      found = grind (arith, append_assoc, more, next, pushed);
     }
