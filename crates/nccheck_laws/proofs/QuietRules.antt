@@ -1,8 +1,8 @@
 -- Which findings are faults: of those at fields alone, the ones at entries that the strict rules refuse; of all others, none.
-use Rattle.nccheck_laws.proofs.Prelude.{Contains, list_any-append, All-nil, All-cons, All-append, Contains-append_right, Version, Entry, FieldName, Listing, FormatFault, Header, layout_of, FileLayout, layout_findings, Fact, Finding, Indexed, indexed_from, indexed, each_before, findings_at, field_findings, floating_findings, is_first, attribute_findings, finding_by_name, attribute_finding, ahead_of, vsize_findings, whole_findings, is_vsize, named, vsize_finding, located, layout_facts, header_findings, all_findings, is_fault, has_any, padded_slab, Ahead, each_after, floating_finding, name_findings, duplicate_name, All-map, ◌≡◌, ℕ, ◌+◌, ◌||◌, ◌⊎◌, Bool, true, false, List, [], ◌∷◌, ◌++◌, flat_map, slice_get, Option, None, Result, Ok, Err, refl, sym, ◌∙◌, arith, All, option_to_list, contains-here}
+use Rattle.nccheck_laws.proofs.Prelude.{Contains, list_any-append, All-nil, All-cons, All-append, Contains-append_right, Version, Entry, FieldName, Listing, FormatFault, Header, layout_of, FileLayout, layout_findings, Fact, Finding, Indexed, indexed_from, indexed, each_before, facts_of, field_at, finding, findings_at, field_findings, floating_findings, is_first, attribute_findings, finding_by_name, attribute_finding, ahead_of, vsize_findings, whole_findings, is_vsize, named, vsize_finding, located, layout_facts, header_findings, all_findings, is_fault, has_any, padded_slab, Ahead, each_after, floating_finding, name_findings, duplicate_name, All-map, ◌≡◌, ℕ, ◌+◌, ◌||◌, ◌⊎◌, Bool, true, false, List, [], ◌∷◌, ◌++◌, flat_map, map, inl, inr, slice_get, Option, None, Result, Ok, Err, refl, sym, ◌∙◌, arith, All, option_to_list, contains-here}
 use Rattle.nc_report.specs.declared.finding.Fact.TheVariants as fact
 use Rattle.nccheck_laws.proofs.Refusals.{refusal_of}
-use Rattle.nccheck_laws.proofs.FaultFindings.{quiet-type}
+use Rattle.nccheck_laws.proofs.FaultFindings.{facts-fault, fault_among, quiet-type}
 use Rattle.nccheck_laws.proofs.FoundNone.{each-quiet}
 
 -- ---- findings that are no faults
@@ -89,10 +89,20 @@ whole-lie Q l = by-header l.header
         All-append (FaultsLieAt Q) _ _ (plain-lie Q _ (plain-vsizes layout fs))
         (All-map (FaultsLieAt Q) (located fs) (layout_findings layout) (λ k x lt. never-lies Q (located fs _) (grind arith)))
 
+-- what is found at one entry
+facts-lie : (Q : ℕ → Type 0) (f : Indexed) (facts : List Fact) → (fault_among facts ≡ None) ⊎ Q f.entry.offset → All (FaultsLieAt Q) (map (finding f) facts)
+facts-lie Q f facts (inr at) = All-map (FaultsLieAt Q) (finding f) facts (λ k x lt is. at)
+facts-lie Q f [] (inl none) = All-nil (FaultsLieAt Q)
+facts-lie Q f (x ∷ facts) (inl none) =
+    All-cons (FaultsLieAt Q) (finding f x) _ (never-lies Q (finding f x) (grind arith)) (facts-lie Q f facts (inl (grind arith)))
+
 fields-lie : (Q : ℕ → Type 0) (i : ℕ) (es : List Entry) → ((e : Entry) → Contains es e → RefusedLiesAt Q e)
     → All (FaultsLieAt Q) (flat_map findings_at (indexed_from i es))
 fields-lie Q i [] lies = All-nil (FaultsLieAt Q)
-fields-lie Q i (e ∷ es) lies = grind (arith, fields-lie Q (i + 1) es (λ x has. lies x (Contains-append_right (e ∷ []) es x has)), All-append, contains-here, Contains-append_right)
+fields-lie Q i (e ∷ es) lies =
+    let refused : (fault_among (facts_of e) ≡ None) ⊎ Q e.offset = elim (lies e (contains-here e es)) [ inl none ↦ inl (facts-fault e.size e.content e.place.name e.place.owner e.fault (quiet-type e none) ∙ none) | inr at ↦ inr at ] in
+    All-append (FaultsLieAt Q) (findings_at (field_at i e)) _ (facts-lie Q (field_at i e) (facts_of e) refused)
+    (fields-lie Q (i + 1) es (λ x has. lies x (Contains-append_right (e ∷ []) es x has)))
 
 floating-lies : (Q : ℕ → Type 0) (i : ℕ) (es : List Entry) → ((e : Entry) → Contains es e → RefusedLiesAt Q e)
     → All (FaultsLieAt Q) (option_to_list (floating_finding (indexed_from i es)))
