@@ -13,7 +13,6 @@ const ARRAY_LIMIT: u128 = 1 << 48;
 /// part of it is listed. `listed` has the listed values of each variable, in the order of `vars`. Returns `None` if a slab, or the array of
 /// a record variable over that many records, has more than 2^48 bytes. The contract says nothing unless `listed` has whole values of each
 /// variable, and each shape has ids of `dims`, with the record dimension nowhere but first.
-#[tactic(auto, using(crate::proofs::SizeLimits::each_some, crate::proofs::SizeLimits::some_kept, crate::proofs::SizeLimits::none_kept))]
 pub fn records_within_limits(dims: &[Dim], vars: &[Var], listed: &[ListedArray]) -> Option<u64>
     ensures { CountsRecords dims.now vars.now listed.now result }
 {
