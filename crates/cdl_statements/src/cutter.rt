@@ -72,6 +72,7 @@ impl<'a> Cutter<'a> {
 
     /// Returns the kind and the bytes of the next token, the first that is left of its statement. The cutter doesn't move.
     #[inline]
+    #[tactic(auto, using(crate::proofs::Cuts::begins), unfolding(crate::specs::code::Cutters::words, crate::specs::code::Cutters::pieces_left))]
     pub fn lexeme(&self) -> Lexeme<'a>
         ensures lexeme { lexeme_of result ≡ lexeme (text_of self.now) (next_token self.now) }
         ensures first { is_done self.now ≡ false → BeginsWith (lexeme_of result) self.now }
@@ -81,6 +82,7 @@ impl<'a> Cutter<'a> {
 
     /// Returns the line of the next token, from 1 on. Between two statements this is the line where the second one begins. The contract
     /// leaves out a cutter that has no statement left.
+    #[tactic(auto, using(crate::proofs::Cuts::line_first), unfolding(crate::specs::code::Cutters::pieces_left))]
     pub fn line(&self) -> u64
         ensures { is_done self.now ≡ false → result ≡ first_line (pieces_left self.now) }
     {
