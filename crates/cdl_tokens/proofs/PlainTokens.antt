@@ -1,5 +1,5 @@
 -- Marks and numbers at the start of bytes: they are no other token, and have no line feed.
-use Rattle.cdl_tokens.proofs.Prelude.{prefix_len, Number, Mark, may_begin_word, goes_on_number, is_mark_byte, is_blank, is_digit, is_sign, scan, token, gap, begins_number, begins_opening, ends_value, get_or-drop, sum_by-append, false≢true, TokenKind, is_token, followed, tokens_at, line_at, ◌≡◌, ℕ, zero, suc, ◌+◌, ◌<◌, ◌≤◌, Bool, true, false, cond, List, [], ◌∷◌, length, get_or, drop, take, sym, ◌∙◌, ap, refl, arith, subst, ◌==◌, ◌||◌, count_by, Some, length-drop, rules}
+use Rattle.cdl_tokens.proofs.Prelude.{prefix_len, Number, Mark, may_begin_word, goes_on_number, is_mark_byte, is_blank, is_digit, is_sign, scan, token, gap, begins_number, begins_opening, ends_value, get_or-drop, sum_by-append, false≢true, TokenKind, is_token, followed, tokens_at, line_at, ◌≡◌, ℕ, ◌+◌, ◌<◌, ◌≤◌, Bool, true, false, cond, List, [], ◌∷◌, length, get_or, drop, take, sym, ◌∙◌, ap, refl, arith, subst, ◌==◌, ◌||◌, count_by, Some, length-drop, rules}
 use Rattle.cdl_tokens.proofs.Scans.{step_gap, step_token, line_more}
 use Rattle.cdl_tokens.proofs.Steps.{take_one_more}
 use Rattle.cdl_tokens.proofs.Words.{and_false}

@@ -1,5 +1,5 @@
 -- A scanner, one gap or token on.
-use Rattle.cdl_tokens.proofs.Prelude.{sum_by-append, Scanned, Token, TokenKind, End, scan, is_end, is_token, left, followed, tokens_at, line_at, ◌≡◌, ℕ, ◌+◌, ◌<◌, ◌≤◌, Bool, true, false, cond, List, [], ◌∷◌, length, drop, take, ◌∙◌, ap, refl, arith, ◌==◌, None, Some, count_by}
+use Rattle.cdl_tokens.proofs.Prelude.{sum_by-append, Scanned, Token, TokenKind, End, scan, is_token, left, followed, tokens_at, line_at, ◌≡◌, ℕ, ◌+◌, ◌<◌, ◌≤◌, Bool, true, false, cond, List, [], ◌∷◌, length, drop, take, ◌∙◌, ap, refl, arith, ◌==◌, None, Some, count_by}
 use Rattle.cdl_tokens.specs.declared.scanner.Scanner.{Scanner}
 use Rattle.cdl_tokens.proofs.Steps.{tokens_more, tokens_past}
 use Rattle.cdl_tokens.proofs.Words.{and_false, and_yes}

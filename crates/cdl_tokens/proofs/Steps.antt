@@ -1,5 +1,5 @@
 -- The tokens, one gap or token on.
-use Rattle.cdl_tokens.proofs.Prelude.{at_drop_more, at_drop_all, drop-drop, Scanned, End, scan, tokens_at, token_at, with_token, ◌≡◌, ℕ, zero, suc, ◌+◌, ◌-◌, ◌<◌, ◌≤◌, Bool, List, [], ◌∷◌, length, drop, take, ap, arith, ◌&&◌, is_none, rules, prefix_len, false, slice_index, refl}
+use Rattle.cdl_tokens.proofs.Prelude.{at_drop_more, at_drop_all, drop-drop, Scanned, End, scan, tokens_at, token_at, with_token, ◌≡◌, ℕ, zero, suc, ◌+◌, ◌-◌, ◌<◌, ◌≤◌, Bool, List, [], ◌∷◌, length, drop, take, ap, arith, ◌&&◌, is_none, rules, prefix_len, take_all, length-drop, false, slice_index, refl}
 
 pub drop_some : (n b : ℕ) (bytes : List ℕ) → 0 < n → drop n (b ∷ bytes) ≡ drop (n - 1) bytes
 drop_some n b bytes h = grind arith
@@ -37,3 +37,7 @@ tokens_more text at_start at f h is some within = grind (arith, tokens_at_start 
 pub tokens_past : (text : List ℕ) (at_start : Bool) (at : ℕ) → length text ≤ at → tokens_at text at_start at 0 (drop at text) ≡ token_at text at End 0 ∷ []
 unfolding tokens_at
 tokens_past text at_start at h = at_drop_all (tokens_at text at_start at 0) text at h
+
+-- all bytes after the first
+pub after_first : (bytes : List ℕ) → take (length bytes - 1) (drop 1 bytes) ≡ drop 1 bytes
+after_first bytes = grind (arith, take_all, length-drop)

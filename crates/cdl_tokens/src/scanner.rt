@@ -73,7 +73,6 @@ impl<'a> Scanner<'a> {
     ///
     /// White space, marks and numbers, which long lists consist of, are read here; [`other_token`](Scanner::other_token) reads the others.
     #[inline(always)]
-    #[tactic(auto, using(crate::proofs::PlainTokens::scan_number, crate::proofs::PlainTokens::digit_number, crate::proofs::PlainTokens::number_flat, crate::proofs::PlainTokens::scan_mark))]
     pub fn token(&mut self) -> Token
         ensures token { left self.old ≡ followed result result.kind (left self.new) }
         ensures text { text_of self.new ≡ text_of self.old }

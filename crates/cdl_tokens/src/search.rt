@@ -126,6 +126,7 @@ fn goes_on(stops: Stops, b: u8) -> bool
 }
 
 /// Returns how many of the bytes are `byte`.
+#[tactic(auto, using(crate::proofs::Masks::counted_more))]
 pub fn count_of(bytes: &[u8], byte: u8) -> usize
     ensures { result ≡ count_by (λ b. b == byte) bytes.now }
 {
