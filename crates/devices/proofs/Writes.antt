@@ -5,7 +5,7 @@ use Rattle.std.proofs.lemmas.Bool.{OnTrue_at, OnTrue_from}
 use Rattle.nc_base.specs.Bytes.{concat_parts}
 use Rattle.devices.specs.Failures.{HasFailed}
 use Rattle.devices.specs.Sinks.{SinkView, append, taken_len, IsPrefix, IsPrefixIf, IsCut, StoppedShort, is_transparent, Appended, FailedPartway}
-use Rattle.devices.specs.code.SinkWrites.{AcceptedSome}
+use Rattle.devices.specs.code.SinkWrites.{AcceptedSome, Written}
 
 pub append-++ : (s : SinkView) (a b : List ℕ) → append s (a ++ b) ≡ append (append s a) b
 unfolding append
@@ -67,6 +67,14 @@ appended_partway s t u a b c first partway = record {
         no_less = omega (arith, f.no_less, count-append s a, ap (λ (v : SinkView). taken_len v) e);
       });
 }
+
+-- one text after another, where the second may have broken off
+pub wrote_then : {X E : Type 0} {s t : SinkView} {a : List ℕ} (u : SinkView) (b : List ℕ) (r : Result X E) → Appended s t a → Written t u b r → Written s u (a ++ b) r
+wrote_then u b (Ok x) first second = appended_then _ _ u _ b first second
+wrote_then {s = s} {t = t} {a = a} u b (Err e) first partway = subst (λ text. FailedPartway s u (a ++ text)) (append-nil b) (appended_partway s t u a b [] first partway)
+
+pub wrote_end : {X E : Type 0} (s t : SinkView) (a : List ℕ) (r : Result X E) → Written s t a r → Written s t (a ++ []) r
+wrote_end s t a r wrote = subst (λ text. Written s t text r) (sym (append-nil a)) wrote
 
 -- a device that took none of what is left
 pub stops : (s t u : SinkView) (text : List ℕ) (n : ℕ) → FailedPartway t u [] → Appended s t (take n text) → FailedPartway s u text
