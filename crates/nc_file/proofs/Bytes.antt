@@ -5,11 +5,11 @@ use Rattle.std.proofs.Math.Seq.{take-add}
 
 -- ---- lists
 
-run-taken : (n : ℕ) (cut : FormatFault) (from : List ℕ) → n ≤ length from → run (bytes n cut) from ≡ Ok (take n from, drop n from)
+pub run-taken : (n : ℕ) (cut : FormatFault) (from : List ℕ) → n ≤ length from → run (bytes n cut) from ≡ Ok (take n from, drop n from)
 unfolding run
 run-taken n cut from le = ap (λ b. cond b (Ok (take n from, drop n from)) (Err (cut, []))) (le-leb n (length from) le)
 
-run-short : (n : ℕ) (cut : FormatFault) (from : List ℕ) → length from < n → run (bytes n cut) from ≡ Err (cut, [])
+pub run-short : (n : ℕ) (cut : FormatFault) (from : List ℕ) → length from < n → run (bytes n cut) from ≡ Err (cut, [])
 unfolding run
 run-short n cut from short = ap (λ b. cond b (Ok (take n from, drop n from)) (Err (cut, []))) (lt-leb n (length from) short)
 

@@ -1,5 +1,5 @@
 -- How many bytes the parts of a written header have.
-use Rattle.nc_file.proofs.Prelude.{◌≡◌, ℕ, ◌+◌, ◌*◌, ◌≤◌, min, take, Bool, false, List, [], ◌∷◌, ◌++◌, length, refl, sym, ap, ◌∙◌, arith, rules, HeaderTruncated, take_all, Att, Dim, Header, NumRecs, Var, Version, NcType, byte_len, count_width, offset_width, padded_size, padding_len, vsize_of, sum_by, sum_by-cons, header_spelling, count_part, ignored, name_part, type_part, list_head, list_part, dim_part, dim_after, dim_list, att_part, att_after, att_list, dimid_part, dimid_after, counted, shape_part, number, offset_part, var_part, var_after, var_list, version_part, magic_part, numrecs_part, header_part, strict, header_by, Part, bytes, printed_len, each_len, each-len, count-len, count_field-len, ignored-len, field_lens, print-len}
+use Rattle.nc_file.proofs.Prelude.{◌≡◌, ℕ, ◌+◌, ◌*◌, ◌≤◌, min, take, Bool, false, List, [], ◌∷◌, ◌++◌, length, refl, sym, ap, ◌∙◌, arith, rules, take_all, Att, Dim, Header, NumRecs, Var, Version, NcType, byte_len, count_width, offset_width, padding_len, sum_by, sum_by-cons, header_spelling, name_part, type_part, list_head, list_part, dim_part, dim_after, dim_list, att_part, att_after, att_list, dimid_part, dimid_after, counted, shape_part, var_part, var_after, var_list, version_part, magic_part, numrecs_part, header_part, strict, header_by, Part, printed_len, each_len, each-len, count-len, field_lens, print-len}
 
 -- a count, as wide as the version's
 abbrev pub count_bytes : Version → ℕ
@@ -8,13 +8,6 @@ count_bytes v = byte_len (count_width v)
 pub name-len : (v : Version) (name : List ℕ) → printed_len (name_part strict v) name ≡ count_bytes v + (length name + padding_len (length name))
 unfolding printed_len name_part
 name-len v name = search (rules, field_lens)
-
--- a name that was read
-pub name-used : (v : Version) (name : List ℕ) (n padding at after_len after_text end : ℕ) → length name ≡ n → padding ≡ padding_len n → at + printed_len (count_part v) n ≡ after_len
-    → after_len + printed_len (bytes n HeaderTruncated) name ≡ after_text → after_text + printed_len (ignored padding) tt ≡ end → at + printed_len (name_part strict v) name ≡ end
-unfolding printed_len
-name-used v name n padding at after_len after_text end len is a b c =
-    omega (arith, name-len v name, count-len v n, ignored-len padding, ap padding_len len, len, is, a, b, c)
 
 pub type-len : (v : Version) (ty : NcType) → printed_len (type_part strict v) ty ≡ 4
 unfolding printed_len type_part
@@ -28,12 +21,6 @@ pub att-len : (v : Version) (att : Att)
     → printed_len (att_part strict v) att ≡ printed_len (name_part strict v) att.name + (4 + (count_bytes v + (length att.vals + padding_len (length att.vals))))
 unfolding printed_len att_part
 att-len v att = search (rules, field_lens, type-len)
-
--- an attribute that was read
-pub att-used : (v : Version) (att : Att) (n at after_name after_type after_count after_values end : ℕ) → at + printed_len (name_part strict v) att.name ≡ after_name → after_name + printed_len (type_part strict v) att.ty ≡ after_type
-    → after_type + printed_len (count_part v) n ≡ after_count → after_count + length att.vals ≡ after_values → after_values + printed_len (ignored (padding_len (length att.vals))) tt ≡ end → at + printed_len (att_part strict v) att ≡ end
-att-used v att n at after_name after_type after_count after_values end a b c d e =
-    omega (arith, att-len v att, type-len v att.ty, count-len v n, ignored-len (padding_len (length att.vals)), a, b, c, d, e)
 
 -- ---- lists
 
@@ -80,14 +67,6 @@ pub var-len : (v : Version) (dims : List Dim) (total : ℕ) (var : Var)
 unfolding printed_len var_part
 var-len v dims total var = search (rules, field_lens, type-len, shape-len)
 
--- a variable that was read
-pub var-used : (v : Version) (dims : List Dim) (total n : ℕ) (var : Var) (at after_name after_shape after_atts after_type after_vsize end : ℕ) → at + printed_len (name_part strict v) var.name ≡ after_name
-    → after_name + printed_len (shape_part v dims) var.dimids ≡ after_shape → after_shape + printed_len (att_list strict v) var.atts ≡ after_atts → after_atts + printed_len (type_part strict v) var.ty ≡ after_type
-    → after_type + printed_len (number (count_width v)) n ≡ after_vsize → after_vsize + printed_len (offset_part v) var.begin_at ≡ end → at + printed_len (var_part strict v dims total) var ≡ end
-unfolding printed_len var_part
-var-used v dims total n var at after_name after_shape after_atts after_type after_vsize end a b c d e f =
-    omega (arith, count_field-len v n, count_field-len v (vsize_of v (padded_size dims var)), a, b, c, d, e, f)
-
 pub vars-len : (v : Version) (dims : List Dim) (vars : List Var) → printed_len (var_list strict v dims) vars ≡ (4 + count_bytes v) + sum_by (printed_len (var_part strict v [] 0)) vars
 unfolding var_list
 vars-len v dims vars = list-len v _ (var_after strict v dims) (printed_len (var_part strict v [] 0)) vars (λ before var. var-len v dims _ var ∙ sym (var-len v [] 0 var))
@@ -105,14 +84,6 @@ numrecs-len v numrecs = search (rules, field_lens)
 parts-len : (h : Header) → printed_len header_part h ≡ (4 + count_bytes h.version) + (printed_len (dim_list strict h.version) h.dims + (printed_len (att_list strict h.version) h.gatts + printed_len (var_list strict h.version h.dims) h.vars))
 unfolding printed_len header_by
 parts-len h = omega (arith, magic-len h.version, numrecs-len h.version h.numrecs)
-
--- a header that was read
-pub header-used : (h : Header) (dims : List Dim) (at after_magic after_numrecs after_dims after_gatts end : ℕ) → at + printed_len magic_part h.version ≡ after_magic → after_magic + printed_len (numrecs_part strict h.version) h.numrecs ≡ after_numrecs
-    → after_numrecs + printed_len (dim_list strict h.version) h.dims ≡ after_dims → after_dims + printed_len (att_list strict h.version) h.gatts ≡ after_gatts
-    → dims ≡ h.dims → after_gatts + printed_len (var_list strict h.version dims) h.vars ≡ end → at + printed_len header_part h ≡ end
-unfolding printed_len header_by
-header-used h dims at after_magic after_numrecs after_dims after_gatts end a b c d same e =
-    omega (arith, a, b, c, d, ap (λ dims. printed_len (var_list strict h.version dims) h.vars) same, e)
 
 pub header-len : (h : Header) → length (header_spelling h) ≡ (4 + count_bytes h.version) + (printed_len (dim_list strict h.version) h.dims + (printed_len (att_list strict h.version) h.gatts + printed_len (var_list strict h.version []) h.vars))
 header-len h = omega (arith, print-len header_part h, parts-len h, vars-len h.version h.dims h.vars, vars-len h.version [] h.vars)

@@ -1,6 +1,7 @@
 pub mod Bytes
 pub mod Totals
 pub mod PartRuns
+mod ReadParts
 pub mod Prints
 pub mod Outcomes
 pub mod FileLaws

@@ -1,7 +1,7 @@
 -- What the parts of a header read.
-use Rattle.nc_file.proofs.Prelude.{◌≡◌, ℕ, suc, ◌+◌, ◌-◌, ◌<◌, ◌≤◌, Bool, true, false, leb, List, [], ◌∷◌, ◌++◌, length, take, drop, Option, Some, None, Result, Ok, Err, cond, if◌then◌else◌, ◌==◌, ◌||◌, refl, sym, ap, subst, ◌∙◌, arith, le_refl, le_trans, length-append, length-drop, FormatFault, HeadFault, Format, OutOfMemory, ReadFailed, HeaderTruncated, TooLarge, Dim, NcType, has_record_dim, total_with, Ghosts, Window, OnTrue, OnTrue_from, sub-zero, Kept, Read, Reads, left, next_of, source_of, checked, each, is_within_limits, Step, Part, done, bytes, decoded, under, chain, Outcome, and_then, with_rest, run, left_after, each_len, each_len-none, each_len-push, each-len, field_lens, Bytes}
+use Rattle.nc_file.proofs.Prelude.{◌≡◌, ℕ, suc, ◌+◌, ◌-◌, ◌<◌, ◌≤◌, Bool, true, false, leb, ◌⊎◌, inl, inr, cases_lt, List, [], ◌∷◌, ◌++◌, length, take, drop, Option, Some, None, Result, Ok, Err, cond, if◌then◌else◌, ◌==◌, ◌||◌, refl, sym, ap, subst, ◌∙◌, arith, le_refl, le_trans, length-append, length-drop, FormatFault, HeadFault, Format, OutOfMemory, ReadFailed, HeaderTruncated, TooLarge, Dim, NcType, has_record_dim, total_with, Ghosts, Window, OnTrue, OnTrue_at, OnTrue_from, sub-zero, Kept, Read, Reads, left, next_of, source_of, checked, each, is_within_limits, Step, Part, done, bytes, decoded, under, chain, Outcome, and_then, with_rest, run, left_after, each_len, each_len-none, each_len-push, each-len, field_lens, Bytes}
 use Rattle.std.proofs.lemmas.List.Folds.{list_any-append}
-use Rattle.nc_file.proofs.Bytes.{kept-then, cause-then}
+use Rattle.nc_file.proofs.Bytes.{kept-then, cause-then, run-short, run-taken}
 use Rattle.nc_file.proofs.Totals.{total_of-append}
 
 -- ---- the rules
@@ -105,15 +105,12 @@ each-start {S = S} {A = A} {g = g} start element n none is = subst (ReadsOn star
 each-fault : {A : Type 0} (is_transparent : Bool) (start mid now : Bytes) (element : List A → Part A) (n i : ℕ) (prefix : List A) (e : HeadFault) → i < n
     → OnTrue is_transparent (run (each element (n - i) prefix) mid ≡ run (each element n []) start)
     → Reads {A = A} is_transparent mid now (element prefix) (Err e) → Reads {A = List A} is_transparent start now (each element n []) (Err e)
-each-fault true start mid now element n i prefix (Format fault) lt same r =
-    sym same ∙ each-step element n i prefix mid lt ∙ ap (λ o. and_then o (λ x middle. run (each element (n - (i + 1)) (prefix ++ x ∷ [])) middle)) r
-each-fault true start mid now element n i prefix OutOfMemory lt same r =
-    rw (← same, each-step element n i prefix mid lt) (le_trans (after-chain (run (element prefix) mid) (λ x. each element (n - (i + 1)) (prefix ++ x ∷ []))) r)
-each-fault true start mid now element n i prefix ReadFailed lt same r =
-    rw (← same, each-step element n i prefix mid lt) (le_trans (after-chain (run (element prefix) mid) (λ x. each element (n - (i + 1)) (prefix ++ x ∷ []))) r)
-each-fault false start mid now element n i prefix (Format fault) lt same r = tt
-each-fault false start mid now element n i prefix OutOfMemory lt same r = tt
-each-fault false start mid now element n i prefix ReadFailed lt same r = tt
+each-fault is_transparent start mid now element n i prefix (Format fault) lt same r = OnTrue_from is_transparent _ (λ known.
+    sym (OnTrue_at known same) ∙ each-step element n i prefix mid lt ∙ ap (λ o. and_then o (λ x middle. run (each element (n - (i + 1)) (prefix ++ x ∷ [])) middle)) (OnTrue_at known r))
+each-fault is_transparent start mid now element n i prefix OutOfMemory lt same r = OnTrue_from is_transparent _ (λ known.
+    rw (← OnTrue_at known same, each-step element n i prefix mid lt) (le_trans (after-chain (run (element prefix) mid) (λ x. each element (n - (i + 1)) (prefix ++ x ∷ []))) (OnTrue_at known r)))
+each-fault is_transparent start mid now element n i prefix ReadFailed lt same r = OnTrue_from is_transparent _ (λ known.
+    rw (← OnTrue_at known same, each-step element n i prefix mid lt) (le_trans (after-chain (run (element prefix) mid) (λ x. each element (n - (i + 1)) (prefix ++ x ∷ []))) (OnTrue_at known r)))
 
 pub each-err : {S A : Type 0} {g : Ghosts S} (start mid now : Window S g) (element : List A → Part A) (n i : ℕ) (prefix : List A) (e : HeadFault) → i < n
     → ReadsOn start mid element n i prefix → Read {A = A} mid now (element prefix) (Err e) → Read {A = List A} start now (each element n []) (Err e)
@@ -128,9 +125,8 @@ each-err {A = A} {g = g} start mid now element n i prefix e lt so_far r = record
 each-on : {A : Type 0} (is_transparent : Bool) (start mid now : Bytes) (element : List A → Part A) (n i : ℕ) (prefix : List A) (x : A) → i < n
     → OnTrue is_transparent (run (each element (n - i) prefix) mid ≡ run (each element n []) start)
     → OnTrue is_transparent (run (element prefix) mid ≡ Ok (x, now)) → OnTrue is_transparent (run (each element (n - (i + 1)) (prefix ++ x ∷ [])) now ≡ run (each element n []) start)
-each-on true start mid now element n i prefix x lt same r =
-    sym (sym same ∙ each-step element n i prefix mid lt ∙ ap (λ o. and_then o (λ y middle. run (each element (n - (i + 1)) (prefix ++ y ∷ [])) middle)) r)
-each-on false start mid now element n i prefix x lt same r = tt
+each-on is_transparent start mid now element n i prefix x lt same r = OnTrue_from is_transparent _ (λ known.
+    sym (sym (OnTrue_at known same) ∙ each-step element n i prefix mid lt ∙ ap (λ o. and_then o (λ y middle. run (each element (n - (i + 1)) (prefix ++ y ∷ [])) middle)) (OnTrue_at known r)))
 
 on-next : {S A : Type 0} {g : Ghosts S} (start mid now : Window S g) (element : List A → Part A) (n i : ℕ) (prefix : List A) (x : A) → i < n
     → ReadsOn start mid element n i prefix → Read mid now (element prefix) (Ok x) → ReadsOn start now element n (i + 1) (prefix ++ x ∷ [])
@@ -148,8 +144,7 @@ each-next start mid now element n i prefix more x lt is so_far r = subst (ReadsO
 
 memory-fault : {A : Type 0} (is_transparent : Bool) (start now : Bytes) (element : List A → Part A) (n i : ℕ) (prefix : List A) → OnTrue is_transparent (run (each element (n - i) prefix) now ≡ run (each element n []) start)
     → OnTrue is_transparent (left_after (run (each element n []) start) ≤ length now)
-memory-fault true start now element n i prefix same = rw (← same) (shorter (each element (n - i) prefix) now)
-memory-fault false start now element n i prefix same = tt
+memory-fault is_transparent start now element n i prefix same = OnTrue_from is_transparent _ (λ known. rw (← OnTrue_at known same) (shorter (each element (n - i) prefix) now))
 
 -- memory ran out for an element that was read
 pub memory-err : {S A : Type 0} {g : Ghosts S} (start mid now : Window S g) (element : List A → Part A) (n i : ℕ) (prefix : List A) (x : A) (e : HeadFault) → i < n → e ≡ OutOfMemory
@@ -162,8 +157,7 @@ memory-err {A = A} {g = g} start mid now element n i prefix x e lt is so_far r =
 -- all were read
 all-read : {A : Type 0} (is_transparent : Bool) (start now : Bytes) (element : List A → Part A) (n i : ℕ) (prefix : List A) → n ≤ i → OnTrue is_transparent (run (each element (n - i) prefix) now ≡ run (each element n []) start)
     → OnTrue is_transparent (run (each element n []) start ≡ Ok (prefix, now))
-all-read true start now element n i prefix le same = sym same ∙ each-end element n i prefix now le
-all-read false start now element n i prefix le same = tt
+all-read is_transparent start now element n i prefix le same = OnTrue_from is_transparent _ (λ known. sym (OnTrue_at known same) ∙ each-end element n i prefix now le)
 
 pub each-done : {S A : Type 0} {g : Ghosts S} (start now : Window S g) (element : List A → Part A) (n i : ℕ) (prefix : List A) → n ≤ i → i ≤ n → ReadsOn start now element n i prefix
     → Read start now (each element n []) (Ok prefix)
@@ -189,28 +183,22 @@ pub ruleset each_runs = (each-start, each-err, each-next, memory-err, each-done,
 -- ---- the word `CDF`
 
 pub run-cut : (n : ℕ) (cut : FormatFault) (from rest : Bytes) (x : Bytes) → run (bytes n HeaderTruncated) from ≡ Ok (x, rest) → run (bytes n cut) from ≡ Ok (x, rest)
-unfolding run
-run-cut n cut from rest x = by-test (leb n (length from))
-  where
-    by-test : (b : Bool) → ◌≡◌ {A = Outcome Bytes} (cond b (Ok (take n from, drop n from)) (Err (HeaderTruncated, []))) (Ok (x, rest)) → ◌≡◌ {A = Outcome Bytes} (cond b (Ok (take n from, drop n from)) (Err (cut, []))) (Ok (x, rest))
-    by-test true e = e
-    by-test false e = absurd cc
+run-cut n cut from rest x e =
+    elim (cases_lt (length from) n) [ inl less ↦ absurd (let f = run-short n HeaderTruncated from less in cc) | inr le ↦ run-taken n cut from le ∙ sym (run-taken n HeaderTruncated from le) ∙ e ]
+
+same-rest : (cut a b : FormatFault) (x y : Bytes) → ◌≡◌ {A = Outcome Bytes} (Err (a, x)) (Err (b, y)) → ◌≡◌ {A = Outcome Bytes} (Err (cut, x)) (Err (cut, y))
+same-rest cut a b x y e = grind arith
 
 pub run-cut_err : (n : ℕ) (cut fault : FormatFault) (from rest : Bytes) → run (bytes n HeaderTruncated) from ≡ Err (fault, rest) → run (bytes n cut) from ≡ Err (cut, rest)
-unfolding run
-run-cut_err n cut fault from rest = by-test (leb n (length from))
-  where
-    by-test : (b : Bool) → ◌≡◌ {A = Outcome Bytes} (cond b (Ok (take n from, drop n from)) (Err (HeaderTruncated, []))) (Err (fault, rest)) → ◌≡◌ {A = Outcome Bytes} (cond b (Ok (take n from, drop n from)) (Err (cut, []))) (Err (cut, rest))
-    by-test true e = absurd cc
-    by-test false e = grind arith
+run-cut_err n cut fault from rest e =
+    elim (cases_lt (length from) n) [ inl less ↦ run-short n cut from less ∙ same-rest cut HeaderTruncated fault [] rest (sym (run-short n HeaderTruncated from less) ∙ e) | inr le ↦ absurd (let f = run-taken n HeaderTruncated from le in cc) ]
 
 pub left-cut : (n : ℕ) (cut : FormatFault) (from : Bytes) → left_after (run (bytes n cut) from) ≡ left_after (run (bytes n HeaderTruncated) from)
-unfolding run left_after
-left-cut n cut from = by-test (leb n (length from))
-  where
-    by-test : (b : Bool) → left_after {A = Bytes} (cond b (Ok (take n from, drop n from)) (Err (cut, []))) ≡ left_after {A = Bytes} (cond b (Ok (take n from, drop n from)) (Err (HeaderTruncated, [])))
-    by-test true = refl
-    by-test false = refl
+unfolding left_after
+left-cut n cut from = elim (cases_lt (length from) n) [
+  | inl less ↦ ap left_after (run-short n cut from less) ∙ sym (ap left_after (run-short n HeaderTruncated from less))
+  | inr le ↦ ap left_after (run-taken n cut from le ∙ sym (run-taken n HeaderTruncated from le))
+]
 
 pub ruleset cuts = (run-cut, run-cut_err, left-cut)
 

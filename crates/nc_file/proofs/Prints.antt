@@ -1,5 +1,5 @@
 -- How the lists of a header and their elements are written.
-use Rattle.nc_file.proofs.Prelude.{◌≡◌, ℕ, Bool, false, List, ◌++◌, length, refl, ap, Att, Dim, Var, Version, flat_map, count_width, number, count_part, list_head, dim_part, dim_after, dim_list, att_part, att_after, att_list, dimid_part, dimid_after, shape_part, counted, var_part, var_after, var_list, dimension_tag, attribute_tag, variable_tag, strict, print}
+use Rattle.nc_file.proofs.Prelude.{◌≡◌, ℕ, Bool, false, List, [], ◌++◌, length, refl, sym, ap, ◌∙◌, Att, Dim, Var, Version, flat_map, count_width, number, count_part, list_head, dim_part, dim_after, dim_list, att_part, att_after, att_list, dimid_part, dimid_after, shape_part, counted, var_part, var_after, var_list, dimension_tag, attribute_tag, variable_tag, strict, print}
 use Rattle.nc_base.proofs.PrintedLists.{each-printed, list-printed}
 use Rattle.devices.proofs.Writes.{writes}
 
@@ -31,5 +31,8 @@ pub ruleset list_prints = (dims-print, atts-print, vars-print, writes)
 pub shape-print : (v : Version) (dims : List Dim) (ids : List ℕ) → print (shape_part v dims) ids ≡ print (count_part v) (length ids) ++ flat_map (print (number (count_width v))) ids
 unfolding print shape_part counted dimid_part
 shape-print v dims ids = ap (λ b. print (count_part v) (length ids) ++ b) (each-printed (dimid_after v dims) (print (number (count_width v))) ids (λ before id. refl))
+
+pub any-shape : (v : Version) (dims : List Dim) (ids : List ℕ) → print (shape_part v dims) ids ≡ print (shape_part v []) ids
+any-shape v dims ids = shape-print v dims ids ∙ sym (shape-print v [] ids)
 
 pub ruleset var_prints = (shape-print, writes)
