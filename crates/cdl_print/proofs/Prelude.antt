@@ -8,7 +8,7 @@ pub use Rattle.cdl_print.specs.code.Printer.{HasPrinted, Takes, look_in, positio
 pub use Rattle.cdl_print.specs.code.Printing.{AppendedNext, FailedInNext, IsAfter, IsAfterNext, IsAfterNumber, IsAfterPart, NextValues, PrintedInRow, PutAt, PutInRow, PutLine, PutNumber, WrittenNext, bytes_in_row, columns_left_after_text, columns_left_in_row, gathered, held_after, number_bytes, part_bytes, row_index_after_part, shown, text_in_row, values_after}
 unfoldable pub use Rattle.cdl_print.specs.code.Printing.{part_text}
 pub use Rattle.cdl_print.specs.declared.{printer.ValuePrinter.ValuePrinter, progress.Progress.Progress}
-pub use Rattle.devices.proofs.Writes.{IsWritten, append-none, appended_partway, appended_then, partway_next, wrote_next, take_all_of}
+pub use Rattle.devices.proofs.Writes.{IsWritten, append-none, appended_partway, appended_then, partway_next, wrote_next, take_all_of, wrote_end, wrote_then}
 pub use Rattle.devices.specs.Sinks.{Appended, FailedPartway, SinkView}
 pub use Rattle.devices.specs.code.SinkWrites.{Written}
 unfoldable pub use Rattle.devices.specs.Sinks.{append, is_transparent}
@@ -19,7 +19,7 @@ pub use Rattle.nc_base.specs.Escapes.{begins_with_digit_or_mark, escaped_in_name
 pub use Rattle.nc_base.specs.code.Quoted.{is_literal, escaped_in, stands_for_itself}
 unfoldable pub use Rattle.nc_base.specs.Escapes.{escaped_name, escaped_text, is_reserved}
 pub use Rattle.nc_base.specs.HeadText.{broken_text, dim_name, joined, without_trailing_nuls}
-unfoldable pub use Rattle.nc_base.specs.HeadText.{att_line, att_lines, dim_line, dim_lines, numbers_text, string_break, var_lines}
+unfoldable pub use Rattle.nc_base.specs.HeadText.{att_line, att_lines, chars_text, dim_len_text, dim_line, dim_lines, head_text, numbers_text, string_break, var_lines}
 pub use Rattle.nc_base.specs.Numbers.{number_of, numbers_from}
 unfoldable pub use Rattle.nc_base.specs.Numbers.{numbers}
 pub use Rattle.nc_base.specs.Types.{number_suffix, size_of}
