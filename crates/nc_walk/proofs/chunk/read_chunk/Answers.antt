@@ -6,6 +6,9 @@ use Rattle.nc_walk.proofs.chunk.read_chunk.Goals as goal
 rest : (n : ℕ) (xs : List ℕ) → n ≤ length xs → n + length (take (length xs - n) (drop n xs)) ≡ length xs
 rest n xs le = omega (arith, length-take (length xs - n) (drop n xs), length-drop n xs)
 
+room : (n : ℕ) (xs had : List ℕ) → n ≤ length xs → length xs ≡ length had → n + length (take (length xs - n) (drop n xs)) ≤ length had
+room n xs had le same = omega (arith, rest n xs le, same)
+
 capacity_left : (n capacity size : ℕ) (xs ys : List ℕ) → n ≤ capacity → n * size ≤ length xs → capacity * size ≤ length ys → length xs ≡ length ys
     → (capacity - n) * size ≤ length (take (length xs - n * size) (drop (n * size) xs))
 capacity_left n capacity size xs ys below fits most same = grind (arith, rest)
@@ -39,7 +42,7 @@ loop-slabs-preserved g c =
     let test = c.loop-slabs-test.ensures.0 refl in
     record {
       going = goes_on g.S.Source.is_transparent _ _ _ _ _ _ _ _ _ _ _ c.loop-slabs.invariant.going test.slab
-          (omega (arith, rest (c.loop-slabs.chunk.values * c.args.slabs.now.size) c.loop-slabs.into c.loop-slabs.invariant.going.collected.fits, c.loop-slabs.auto.into, c.read_from_slab.auto.into))
+          (room (c.loop-slabs.chunk.values * c.args.slabs.now.size) c.loop-slabs.into c.args.into.now c.loop-slabs.invariant.going.collected.fits (c.loop-slabs.auto.into ∙ c.read_from_slab.auto.into))
           _ c.in-Ok.ensures.collects c.in-Ok.ensures.slab_read;
       at = λ first.
           c.saturating_add-at.ensures
@@ -51,7 +54,7 @@ pub returns-in-Err-ReadFailed : goal.returns-in-Err-ReadFailed
 returns-in-Err-ReadFailed g c =
     let test = c.loop-slabs-test.ensures.0 refl in
     fails g.S.Source.is_transparent _ _ _ _ _ c.read_values_as_chunk.new.into _ _ _ _ 0 c.loop-slabs.invariant.going test.slab
-    (omega (arith, rest (c.loop-slabs.chunk.values * c.args.slabs.now.size) c.loop-slabs.into c.loop-slabs.invariant.going.collected.fits, c.loop-slabs.auto.into, c.read_from_slab.auto.into))
+    (room (c.loop-slabs.chunk.values * c.args.slabs.now.size) c.loop-slabs.into c.args.into.now c.loop-slabs.invariant.going.collected.fits (c.loop-slabs.auto.into ∙ c.read_from_slab.auto.into))
     _ (rw c.in-Err-ReadFailed.field-0-is at c.in-Err-ReadFailed.ensures.collects).1
 
 pub read_from_slab-requires-2 : goal.read_from_slab-requires-2
@@ -66,11 +69,11 @@ overflow_add-result g c =
 pub returns-in-Ok-read_from_slab : goal.returns-in-Ok-read_from_slab
 returns-in-Ok-read_from_slab g c =
     (goes_on g.S.Source.is_transparent _ _ _ _ _ _ _ _ _ _ _ c.loop-slabs.invariant.going (c.if-not-continues_in_next_slab.ensures.0 refl).slab
-    (omega (arith, rest (c.loop-slabs.chunk.values * c.args.slabs.now.size) c.loop-slabs.into c.loop-slabs.invariant.going.collected.fits, c.loop-slabs.auto.into, c.read_from_slab.auto.into))
+    (room (c.loop-slabs.chunk.values * c.args.slabs.now.size) c.loop-slabs.into c.args.into.now c.loop-slabs.invariant.going.collected.fits (c.loop-slabs.auto.into ∙ c.read_from_slab.auto.into))
     _ c.in-Ok-read_from_slab.ensures.collects c.in-Ok-read_from_slab.ensures.slab_read).collected
 
 pub returns-in-Err-ReadFailed-read_from_slab : goal.returns-in-Err-ReadFailed-read_from_slab
 returns-in-Err-ReadFailed-read_from_slab g c =
     fails g.S.Source.is_transparent _ _ _ _ _ c.read_from_slab-2.new.into _ _ _ _ 0 c.loop-slabs.invariant.going (c.if-not-continues_in_next_slab.ensures.0 refl).slab
-    (omega (arith, rest (c.loop-slabs.chunk.values * c.args.slabs.now.size) c.loop-slabs.into c.loop-slabs.invariant.going.collected.fits, c.loop-slabs.auto.into, c.read_from_slab.auto.into))
+    (room (c.loop-slabs.chunk.values * c.args.slabs.now.size) c.loop-slabs.into c.args.into.now c.loop-slabs.invariant.going.collected.fits (c.loop-slabs.auto.into ∙ c.read_from_slab.auto.into))
     _ (rw c.in-Err-ReadFailed-read_from_slab.field-0-is at c.in-Err-ReadFailed-read_from_slab.ensures.collects).1
