@@ -1,23 +1,23 @@
 -- The names that proofs of this crate cite from elsewhere, passed on from one place.
 pub use Rattle.std.proofs.Common.{◌≡◌, ℕ, ◌+◌, ◌*◌, ◌-◌, ◌/◌, ◌<◌, true, List, [], ◌∷◌, ◌++◌, map, ◌∙◌, ap, refl, arith, append_assoc, slice_index_or, ◌⊎◌, drop, sym, subst, false, append-nil, None, Ok, codes, rules, length, Result, ℤ, Bool, get_or, if◌then◌else◌, suc, ◌^◌, Some, ◌≤◌, unsigned_abs, ◌==◌, not, Option, zero, take, ◌&&◌, is_none, is_some, ◌||◌, All, filter, slice_get, pos, replicate, ◌%◌, decimal, negsuc, nat_le, length-drop, nat_lt, find, neg_ℤ, Err}
 pub use Rattle.cdl_laws.specs.Goods.{KeepsFill, IsNearlySayable, MeaningsAreGood, MeaningsAreNearlySayable}
-pub use Rattle.cdl_laws.specs.PieceLaws.{AttributeReadsBack, DeclarationReadsBack, IsBeforeData, IsStatement, SaysStatement, brace_piece, declaration, dimensions, globals, opening_line, opening_piece, said_dim, variables, escaped_owner}
+pub use Rattle.cdl_laws.specs.PieceLaws.{AttributeReadsBack, DeclarationReadsBack, IsBeforeData, IsStatement, SaysStatement, brace_piece, declaration, dimensions, globals, said_dim, variables, escaped_owner}
 pub use Rattle.cdl_laws.specs.Reading.{cut_lexemes, lexemes, with_lexeme}
 unfoldable pub use Rattle.cdl_laws.specs.Reading.{lexemes_at, pieces_of}
 pub use Rattle.cdl_laws.specs.RoundTrip.{IsFull, TextReadsBack}
 pub use Rattle.cdl_laws.specs.TokenLaws.{AreToken, NamesReadBack, StandsForBytes, StopsNumber, StringsStandForBytes}
 pub use Rattle.cdl_laws.specs.Trims.{FillValueSurvivesTrim, TrimmedIsSayable, TrimsOnce, has_cut_fill}
-pub use Rattle.cdl_statements.specs.Meaning.{array_of, closing_line, dataset_of, empty, has_small_array, header_of, meaning, records_in, listed_values}
+pub use Rattle.cdl_statements.specs.Meaning.{array_of, dataset_of, empty, has_small_array, header_of, meaning, records_in, listed_values}
 unfoldable pub use Rattle.cdl_statements.specs.SoundHeaders.{is_sound}
 unfoldable pub use Rattle.cdl_statements.specs.Meaning.{finished, are_within_limits, piece_read, run}
-pub use Rattle.cdl_statements.specs.State.{Draft, Joined, Numbers, Rows, State, Takes, add_constant, add_value, change_named, int_within, filled, first_type, in_turn, room_of, values_listed, with_att, with_values, ◌>>=◌}
+pub use Rattle.cdl_statements.specs.State.{Draft, Joined, Numbers, Rows, State, add_constant, add_value, change_named, int_within, filled, first_type, in_turn, room_of, values_listed, with_att, with_values, ◌>>=◌}
 unfoldable pub use Rattle.cdl_statements.specs.State.{act, add_att, add_dim, add_dimid, add_var, change_variable, has_number, takes_of, type_of}
-pub use Rattle.cdl_statements.specs.Lexemes.{Lexeme, is_end_kind, is_mark, is_opening_kind, is_word, is_word_kind, lexeme}
+pub use Rattle.cdl_statements.specs.Lexemes.{Lexeme, is_mark, is_word, lexeme}
 unfoldable pub use Rattle.cdl_statements.specs.Lexemes.{name_of}
 pub use Rattle.cdl_statements.specs.Pieces.{first_role, role, section_of, statements, step, with_first}
 unfoldable pub use Rattle.cdl_statements.specs.Pieces.{is_section, pieces_after}
 pub use Rattle.cdl_statements.specs.code.Cutters.{is_end_role}
-pub use Rattle.cdl_statements.specs.Shapes.{Attribute, Close, Characters, DeclareDimensions, Dimension, End, Listed, Enter, Number, Open, Statement, DeclareVariables, Underscore, Value, Variable, after_member, assigned, at_end, attribute_or_mark, both, constant, constants, first_bad, if_so, in_parentheses, other_statement, section_mark, section_number, token_fault}
+pub use Rattle.cdl_statements.specs.Shapes.{Attribute, Close, Characters, DeclareDimensions, Dimension, Listed, Enter, Number, Statement, DeclareVariables, Underscore, Value, Variable, after_member, assigned, at_end, attribute_or_mark, both, constant, constants, first_bad, if_so, in_parentheses, other_statement, section_mark, section_number, token_fault}
 unfoldable pub use Rattle.cdl_statements.specs.Shapes.{shape}
 pub use Rattle.cdl_statements.specs.declared.{fault.CdlFault.CdlFault, fault.CdlKind.CdlKind, piece.CutState.CutState, piece.Role.Role, section.Section.Section}
 pub use Rattle.cdl_statements.specs.declared.fault.CdlKind.TheVariants.{BadName, BadNumber, BadShape, BadToken, DuplicateData, DuplicateName, FloatingType, MixedConstants, NumberRange, StringTooLong, Syntax, TooLarge, TooManyValues, TwoRecordDims, UnknownDimension, UnknownType, UnknownVariable, WrongKind, ZeroDimension}
@@ -30,7 +30,7 @@ pub use Rattle.cdl_tokens.specs.Numerals.{TypedNumber, Parts, in_base, number, w
 unfoldable pub use Rattle.cdl_tokens.specs.Numerals.{numeral, parts, type_of_suffix}
 pub use Rattle.cdl_tokens.specs.Scan.{begins_a_word, begins_number, begins_opening, scan_text, token}
 unfoldable pub use Rattle.cdl_tokens.specs.Scan.{scan, len_until, word_len}
-pub use Rattle.cdl_tokens.specs.Tokens.{raw, token_at, tokens, with_token}
+pub use Rattle.cdl_tokens.specs.Tokens.{token_at, tokens}
 unfoldable pub use Rattle.cdl_tokens.specs.Tokens.{tokens_at}
 pub use Rattle.cdl_tokens.specs.declared.{scan.Scanned.Scanned, token.Token.Token, token.TokenKind.TokenKind}
 pub use Rattle.cdl_tokens.specs.declared.token.TokenKind.TheVariants.{Bad, Text, Word}
@@ -60,7 +60,7 @@ pub use Rattle.nc_base.specs.code.LaterPieces.{is_nul}
 unfoldable pub use Rattle.nc_base.specs.code.LaterPieces.{piece, pieces}
 pub use Rattle.nc_base.specs.Versions.{count_limit, has_type, offset_limit}
 pub use Rattle.nc_base.specs.declared.{dataset.Dataset.Dataset, header.Att.Att, header.Dim.Dim, header.Header.Header, header.Var.Var, nc_type.NcType.NcType, version.Version.Version}
-pub use Rattle.nc_base.specs.declared.header.NumRecs.TheVariants.{Known, Streaming}
+pub use Rattle.nc_base.specs.declared.header.NumRecs.TheVariants.{Known}
 pub use Rattle.nc_base.specs.declared.nc_type.NcType.TheVariants.{Byte, Char, Int, Int64, Short, Ubyte, Uint, Uint64, Ushort}
 pub use Rattle.nc_base.specs.declared.version.Version.TheVariants.{Cdf1, Cdf2, Cdf5}
 pub use Rattle.std.proofs.Math.Nat.{div-eq_of_lt, mod-eq_of_lt, mul-add-div, mul-div_cancel}
@@ -87,7 +87,7 @@ pub use Rattle.cdl_tokens.proofs.Words.{word_at_start, until_at_start, and_false
 pub use Rattle.nc_base.proofs.SoundLaws.{some_size, some_count}
 pub use Rattle.nc_base.proofs.Found.{all-at}
 pub use Rattle.cdl_tokens.proofs.PlainStrings.{inner_of}
-pub use Rattle.nc_base.proofs.ValueLaws.{look-type, length-numbers_from}
+pub use Rattle.nc_base.proofs.ValueLaws.{length-numbers_from}
 pub use Rattle.nc_base.proofs.CharacterRows.{prefix_is, pieces_are, a_row}
 unfoldable pub use Rattle.nc_base.proofs.CharacterRows.{char_pieces, printed}
 pub use Rattle.cdl_statements.proofs.InRange.{is_had}

@@ -19,7 +19,7 @@ pub use Rattle.nc_base.specs.Escapes.{begins_with_digit_or_mark, escaped_in_name
 pub use Rattle.nc_base.specs.code.Quoted.{is_literal, escaped_in, stands_for_itself}
 unfoldable pub use Rattle.nc_base.specs.Escapes.{escaped_name, escaped_text, is_reserved}
 pub use Rattle.nc_base.specs.HeadText.{broken_text, dim_name, joined, without_trailing_nuls}
-unfoldable pub use Rattle.nc_base.specs.HeadText.{att_line, att_lines, chars_text, dim_len_text, dim_line, dim_lines, head_text, numbers_text, string_break, var_lines}
+unfoldable pub use Rattle.nc_base.specs.HeadText.{att_line, att_lines, dim_len_text, dim_line, dim_lines, head_text, numbers_text, string_break, var_lines}
 pub use Rattle.nc_base.specs.Numbers.{number_of, numbers_from}
 unfoldable pub use Rattle.nc_base.specs.Numbers.{numbers}
 pub use Rattle.nc_base.specs.Types.{number_suffix, size_of}
@@ -28,18 +28,18 @@ unfoldable pub use Rattle.nc_base.specs.ValueText.{look_of, number_piece, variab
 pub use Rattle.nc_base.specs.code.LaterPieces.{char_text, held, later_pieces}
 unfoldable pub use Rattle.nc_base.specs.code.LaterPieces.{char_piece, piece, pieces}
 pub use Rattle.nc_base.specs.declared.nc_type.NcType.{NcType}
-pub use Rattle.nc_base.specs.declared.nc_type.NcType.TheVariants.{Byte, Char, Int, Int64, Short, Ubyte, Uint, Uint64, Ushort}
+pub use Rattle.nc_base.specs.declared.nc_type.NcType.TheVariants.{Char}
 pub use Rattle.std.proofs.Math.Nat.{div-eq-sub-div, div-eq_of_lt, div-mul-le_self, le_of_mul-le-mul_right, mul-div_cancel, mul-le-mul_right, zero-mod}
-pub use Rattle.std.proofs.lemmas.Bool.{OnTrue_at, OnTrue_from, cases_lt, cond-false, cond-true, false≢true, lt-ltb, agree_below, agree_below_at}
+pub use Rattle.std.proofs.lemmas.Bool.{OnTrue_at, OnTrue_from, cond-false, cond-true, false≢true, lt-ltb, agree_below, agree_below_at}
 pub use Rattle.std.proofs.lemmas.Bool.Decides.{nat_tests}
 pub use Rattle.std.proofs.lemmas.Grind.{common_steps, flat_map-append}
-pub use Rattle.std.proofs.lemmas.List.{append-nil, drop-drop, drop-take, length-drop, length-map, length-take-le, map-append, nil_from_length, take-append-drop, take-take, take_all, take_more, reverse-append, length-reverse, replicate-append-replicate}
+pub use Rattle.std.proofs.lemmas.List.{append-nil, drop-drop, drop-take, length-drop, length-map, length-take-le, map-append, take-append-drop, take-take, take_all, take_more, reverse-append, length-reverse, replicate-append-replicate}
 pub use Rattle.std.proofs.lemmas.List.Sums.{prefix_len-le-length, suffix_len-le-length}
 pub use Rattle.std.proofs.lemmas.Result.{err_from_is_err_and}
 pub use Rattle.std.specs.Fmt.{decimal, signed_decimal}
 pub use Rattle.std.specs.Int.{cast_signed, cast_unsigned, w128}
 pub use Rattle.std.specs.List.{flat_map, list_all, position_or_len, prefix_len, suffix_len}
-pub use Rattle.nc_base.proofs.Tests.{and_parts, or_second}
+pub use Rattle.nc_base.proofs.Tests.{and_parts}
 pub use Rattle.nc_base.proofs.SoundLaws.{some_size, whole_part}
 pub use Rattle.std.proofs.lemmas.Simd.{Each1-all, Each1-zip2, Each2-splat, length-zip2, SwzOk, SwzOk-from_below, swz_l, get_or-swz_l_below, zip2_splat, mask_l-mod, leading_from_mask_l, length-chunk, zip2_of_maps, trailing_mask_l, length-put_chunk, take_more_put_chunk}
 pub use Rattle.std.proofs.Math.Seq.{take-add, take-append_seam, take-append-add, drop-append_seam}

@@ -13,18 +13,18 @@ pub use Rattle.cdl_statements.specs.code.Cutters.{is_end_role, first_line, first
 unfoldable pub use Rattle.cdl_statements.specs.code.Cutters.{after, pieces_left, words}
 pub use Rattle.cdl_statements.specs.code.DueTokens.{is_after, is_length, is_name, is_value_of, next_if, opens_section_after, separator}
 unfoldable pub use Rattle.cdl_statements.specs.code.DueTokens.{completes, next}
-pub use Rattle.cdl_statements.specs.code.ListedTokens.{IsAtComma, Passes, PassesString, PassesNumber, PassesUnderscore}
+pub use Rattle.cdl_statements.specs.code.ListedTokens.{IsAtComma, Passes, PassesNumber, PassesUnderscore}
 pub use Rattle.cdl_statements.specs.code.ValueLists.{SamePlace, reached}
 pub use Rattle.cdl_statements.specs.code.Views.{lexeme_of, lexeme_with}
 pub use Rattle.cdl_statements.specs.declared.{cutter.Cutter.Cutter, due.Due.Due, fault.CdlKind.CdlKind, piece.CutState.CutState, piece.Role.Role, piece.Step.Step, section.Section.Section}
-pub use Rattle.cdl_statements.specs.declared.piece.CutState.TheVariants.{Begins, Inside}
+pub use Rattle.cdl_statements.specs.declared.piece.CutState.TheVariants.{Inside}
 pub use Rattle.cdl_statements.specs.declared.piece.Role.TheVariants.{Other}
 pub use Rattle.cdl_statements.specs.declared.section.Section.TheVariants.{Dimensions, Ended, Globals, Unopened, Values, Variables, Closed}
 pub use Rattle.cdl_tokens.proofs.Words.{and_false}
 unfoldable pub use Rattle.cdl_tokens.specs.Escapes.{word_value}
 pub use Rattle.cdl_tokens.specs.Numerals.{number}
 unfoldable pub use Rattle.cdl_tokens.specs.Numerals.{numeral, parts}
-pub use Rattle.cdl_tokens.specs.Tokens.{raw, tokens}
+pub use Rattle.cdl_tokens.specs.Tokens.{raw}
 pub use Rattle.cdl_tokens.specs.code.Scanners.{followed, is_end, left}
 pub use Rattle.cdl_tokens.specs.declared.{token.Token.Token, token.TokenKind.TokenKind}
 unfoldable pub use Rattle.nc_base.specs.Escapes.{is_reserved}

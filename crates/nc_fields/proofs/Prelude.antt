@@ -7,7 +7,7 @@ pub use Rattle.nc_base.specs.Parts.{Dims, Item, Magic, Part, Shape, Step, Vars, 
 pub use Rattle.nc_base.specs.Sizes.{has_record_dim}
 pub use Rattle.nc_base.specs.code.PartRuns.{Outcome, and_then, with_rest}
 unfoldable pub use Rattle.nc_base.specs.code.PartRuns.{left_after, run}
-pub use Rattle.nc_base.specs.declared.{fault.FormatFault.FormatFault, header.Header.Header, version.Version.Version}
+pub use Rattle.nc_base.specs.declared.{fault.FormatFault.FormatFault, header.Header.Header}
 pub use Rattle.nc_base.specs.declared.fault.FormatFault.TheVariants.{HeaderTruncated, NotNetcdf}
 pub use Rattle.nc_fields.specs.Entries.{Seen, cut_content, ends_with_nul, hdf5_signature, kept_letters, number_in, owner_steps, seen_by, steps_of, whole_content}
 unfoldable pub use Rattle.nc_fields.specs.Entries.{seen}

@@ -5,8 +5,8 @@ pub use Rattle.nc_layout.specs.Blocks.{each_slot}
 pub use Rattle.nc_layout.specs.Findings.{IsSoundLayout, layout_findings}
 pub use Rattle.nc_layout.specs.HeaderLayout.{layout_of}
 pub use Rattle.nc_layout.specs.Slots.{padded_slab}
-pub use Rattle.nc_layout.specs.declared.{finding.LayoutFinding.LayoutFinding, finding.LayoutPlace.LayoutPlace, slot.FileLayout.FileLayout, slot.Slot.Slot}
-pub use Rattle.nc_report.specs.Ahead.{ahead_of, is_count, is_type, is_values, is_var_type, number_at, values_at, var_type_at}
+pub use Rattle.nc_layout.specs.declared.{finding.LayoutFinding.LayoutFinding, slot.FileLayout.FileLayout, slot.Slot.Slot}
+pub use Rattle.nc_report.specs.Ahead.{ahead_of}
 pub use Rattle.nc_report.specs.AttributeRules.{attribute_finding, finding_by_name}
 unfoldable pub use Rattle.nc_report.specs.AttributeRules.{attribute_findings}
 pub use Rattle.nc_report.specs.FieldRules.{findings_at, is_floating, is_not_nfc}
@@ -20,9 +20,9 @@ unfoldable pub use Rattle.nc_report.specs.WholeHeader.{vsize_findings, whole_fin
 pub use Rattle.nc_report.specs.code.FirstNames.{HasFirst, hash, index_if, index_of, is_first_of, is_key_of}
 pub use Rattle.nc_report.specs.code.Passes.{ahead_with, each_backward}
 pub use Rattle.nc_report.specs.code.WholeHeaders.{HasSoundLayout, HoldsNumbers, found_at_number, located_number, number_field, vsize_fact, vsize_facts}
-pub use Rattle.nc_report.specs.declared.{ahead.Ahead.Ahead, ahead.NumberField.NumberField, ahead.ValuesAt.ValuesAt, finding.Fact.Fact, finding.Finding.Finding, kind.Kind.Kind, names.FirstNames.FirstNames, names.NameScope.NameScope, number_fields.NumberFields.NumberFields}
+pub use Rattle.nc_report.specs.declared.{ahead.Ahead.Ahead, ahead.NumberField.NumberField, finding.Fact.Fact, finding.Finding.Finding, kind.Kind.Kind, names.FirstNames.FirstNames, names.NameScope.NameScope, number_fields.NumberFields.NumberFields}
 pub use Rattle.std.proofs.Common.{Bool, Bor, Err, IsTrue, List, None, Ok, OnOk, Option, Result, Some, SomeIff, [], ap, append_assoc, ap₂, arith, cond, drop, false, get_or, if◌then◌else◌, length, map, not, refl, rules, slice_get, subst, suc, sym, take, true, zero, ℕ, ◌&&◌, ◌++◌, ◌+◌, ◌-◌, ◌<◌, ◌==◌, ◌^◌, ◌↔◌, ◌∙◌, ◌∷◌, ◌≡◌, ◌≤◌}
-pub use Rattle.std.proofs.lemmas.Bool.{OnTrue_at, OnTrue_from, and_parts, false_from_ne_true}
+pub use Rattle.std.proofs.lemmas.Bool.{OnTrue_at, OnTrue_from, false_from_ne_true}
 pub use Rattle.std.proofs.lemmas.Cmp.{nat_cmp_total, on_total, then_total, tied_itself}
 pub use Rattle.std.proofs.lemmas.List.{append-nil, at_drop_more, length-take-le, take_more}
 pub use Rattle.std.proofs.lemmas.List.Sorted.{IsPermutation-append, IsPermutation-append_comm, IsPermutation-append_left, IsPermutation-append_right, IsPermutation-map, IsPermutation-refl, IsPermutation-trans, answers_always, ranks_by, sorted_far, sum_by-IsPermutation}
@@ -30,8 +30,8 @@ pub use Rattle.std.specs.Bool.{OnTrue, one_answer}
 pub use Rattle.std.specs.Cmp.{IsTotalOrder}
 pub use Rattle.std.specs.Cmp.Lexicographic.{bytes_decides, options_total, slice_cmp}
 pub use Rattle.std.specs.List.{All, AllPairs, sum_by}
-pub use Rattle.std.specs.Option.{option_and_then, option_copied, option_map, option_map_or, option_or, option_to_list}
+pub use Rattle.std.specs.Option.{option_copied, option_map, option_map_or, option_or, option_to_list}
 pub use Rattle.std.specs.Ordering.{is_eq, is_gt, is_lt, nat_cmp, ordering_reverse, ordering_then}
 pub use Rattle.std.specs.Prelude.{IsPermutation, find, flat_map}
-pub use Rattle.std.specs.Str.{IsUtf8, bytes_eq, chars, is_utf8}
+pub use Rattle.std.specs.Str.{IsUtf8, chars, is_utf8}
 pub use Rattle.std.specs.declared.{cmp.Ordering.Ordering}

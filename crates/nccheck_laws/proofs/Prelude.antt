@@ -2,30 +2,30 @@
 pub use Rattle.nc_base.proofs.FileHolds.{bare-after, file-holds, header-len-bare, len-after, record_size_of-bare, records-bare, sound-after}
 pub use Rattle.nc_base.proofs.PartOutcomes.{Tells, printed, reads, stops, tells}
 pub use Rattle.nc_base.proofs.Prelude.{be_bytes_4, be_bytes_8, mul-div_cancel}
-pub use Rattle.nc_base.proofs.Printable.{header-printable, one-total, total-append, wide-32}
+pub use Rattle.nc_base.proofs.Printable.{header-printable, one-total, total-append}
 pub use Rattle.nc_base.proofs.SlabBytes.{fixed-whole, record-whole}
 pub use Rattle.nc_base.specs.Bytes.{AreBytes, Bytes}
 pub use Rattle.nc_base.specs.Datasets.{Fits, HoldsDataset}
 pub use Rattle.nc_base.specs.GeneratedFile.{begin_after, fixed_vars, known_records, record_part, slabs_before, vars_with_begins}
 unfoldable pub use Rattle.nc_base.specs.GeneratedFile.{data_of, file_of, with_begins}
-pub use Rattle.nc_base.specs.Grammar.{Rules, SpellsHeader, att_after, attribute_tag, checked, count_part, dim_after, dimension_tag, dimid_after, first, header_part, header_spelling, is_within_limits, strict, type_in, var_after, variable_tag, version_in, vsize_of}
+pub use Rattle.nc_base.specs.Grammar.{Rules, SpellsHeader, att_after, attribute_tag, checked, count_part, dim_after, dimension_tag, dimid_after, first, header_part, header_spelling, is_within_limits, strict, type_in, var_after, variable_tag, vsize_of}
 unfoldable pub use Rattle.nc_base.specs.Grammar.{att_list, att_part, counted, dim_list, dim_part, dimid_part, each, header_by, ignored, limited_part, list_head, list_part, magic_part, name_part, number, numrecs_part, offset_part, shape_part, type_part, var_list, var_part, version_part}
-pub use Rattle.nc_base.specs.Headers.{AreArrays, HasValidNames, IsGood, IsSoundVar, bare, bare_var}
-pub use Rattle.nc_base.specs.Names.{IsName, is_name, may_begin_name, may_follow_in_name}
+pub use Rattle.nc_base.specs.Headers.{AreArrays, HasValidNames, IsGood, bare, bare_var}
+pub use Rattle.nc_base.specs.Names.{IsName, is_name, may_follow_in_name}
 pub use Rattle.nc_base.specs.Parts.{Atts, Begin, Count, Dims, Gatts, Item, Length, Magic, Name, Padding, Part, Records, Shape, Step, Tag, Text, TypeCode, Values, Vars, VersionByte, Vsize, bytes, chain, decoded, done, under}
 unfoldable pub use Rattle.nc_base.specs.Parts.{Spells, print}
 pub use Rattle.nc_base.specs.Places.{distance, ends_after, first_missing, slab_strides, stored_bytes, vectors_below}
 unfoldable pub use Rattle.nc_base.specs.Places.{value_offsets}
 pub use Rattle.nc_base.specs.Sizes.{has_record_dim, is_record_var, least_begin, padded_size, padded_total, product, record_size_of, record_vars, records_between, slab_lens, slab_size}
 pub use Rattle.nc_base.specs.Types.{code_of, size_of}
-pub use Rattle.nc_base.specs.Versions.{count_limit, count_width, offset_limit, offset_width, version_byte}
+pub use Rattle.nc_base.specs.Versions.{count_limit, count_width, offset_limit, offset_width}
 pub use Rattle.nc_base.specs.code.PartRuns.{IsPrintable, Outcome, StopsWith, and_then, with_rest}
 unfoldable pub use Rattle.nc_base.specs.code.PartRuns.{left_after, run}
 pub use Rattle.nc_base.specs.declared.{dataset.Dataset.Dataset, fault.FormatFault.FormatFault, header.Att.Att, header.Dim.Dim, header.Header.Header, header.NumRecs.NumRecs, header.Var.Var, nc_type.NcType.NcType, version.Version.Version}
 pub use Rattle.nc_base.specs.declared.fault.FormatFault.TheVariants.{BadCount, BadName, BadTag, FloatingType, HeaderTruncated, NotNetcdf, TooLarge, TwoRecordDims}
 pub use Rattle.nc_base.specs.declared.header.NumRecs.TheVariants.{Known}
 pub use Rattle.nc_fields.proofs.Checks.{IsField, bytes-field, decoded-field, fault_in}
-pub use Rattle.nc_fields.specs.Entries.{Seen, cut_content, hdf5_signature, name_steps, owner_steps, seen_by, steps_of, whole_content}
+pub use Rattle.nc_fields.specs.Entries.{Seen, hdf5_signature, name_steps, owner_steps, seen_by, steps_of, whole_content}
 unfoldable pub use Rattle.nc_fields.specs.Entries.{seen}
 pub use Rattle.nc_fields.specs.Fields.{Field}
 unfoldable pub use Rattle.nc_fields.specs.Fields.{fields}
@@ -55,9 +55,9 @@ pub use Rattle.nc_layout.specs.code.Sweep.{padding_end, value_end}
 pub use Rattle.nc_layout.specs.declared.{blocks.Extent.Extent, file_end.SlabPlace.SlabPlace, finding.Block.Block, finding.LayoutFact.LayoutFact, finding.LayoutFinding.LayoutFinding, finding.Slab.Slab, slot.FileLayout.FileLayout, slot.Slot.Slot}
 pub use Rattle.nc_report.proofs.OneOrder.{UpTo, pairs-head, pairs-tail, same-lists}
 pub use Rattle.nc_report.specs.Ahead.{ahead_of, is_field, next_number, number_in}
-pub use Rattle.nc_report.specs.AttributeRules.{attribute_finding, empty_list, finding_by_name, name_finding, type_finding}
+pub use Rattle.nc_report.specs.AttributeRules.{attribute_finding, empty_list, finding_by_name}
 unfoldable pub use Rattle.nc_report.specs.AttributeRules.{attribute_findings}
-pub use Rattle.nc_report.specs.FieldRules.{content_facts, fact_if, facts_of, facts_with, fault_fact, findings_at, floating_finding, gzip_signature, has_nonzero, is_floating_in, is_large_count}
+pub use Rattle.nc_report.specs.FieldRules.{fact_if, facts_of, facts_with, fault_fact, findings_at, floating_finding, gzip_signature, has_nonzero, is_floating_in, is_large_count}
 unfoldable pub use Rattle.nc_report.specs.FieldRules.{field_findings, floating_findings}
 unfoldable pub use Rattle.nc_report.specs.HeaderRules.{header_findings}
 pub use Rattle.nc_report.specs.Indexed.{Indexed, each_after, each_before, field_at, finding, indexed, indexed_from}
@@ -75,7 +75,7 @@ pub use Rattle.nccheck_laws.specs.HeaderLaws.{CanonicalBeginsAreGenerated, Gener
 pub use Rattle.nccheck_laws.specs.LayoutLaws.{AreApart, CanonicalBeginsAreQuiet, CanonicalLengthIsQuiet, FindsNone, HasCanonicalBegins, MissingValuesHaveSlab, QuietBeginsAreCanonical, QuietLengthIsCanonical, QuietSlabsAreApart, canonical_begin, canonical_len, fixed_bytes, is_of_begin, is_of_end, is_of_shared_bytes}
 pub use Rattle.nccheck_laws.specs.ReportLaws.{CanonicalSpellingsAreQuiet, FindsWholeFile, GeneratedFilesAreFoundWhole, GeneratedFilesHaveQuietLayouts, GeneratedFilesHaveQuietSpellings, HasQuietLayout, IsAsGenerated, QuietFilesAreCanonical, QuietHeadersAreCanonical, QuietSpellingsAreCanonical, ShowsAllValues, WholeFilesHoldDatasets, WholeReportsAreDumped, has_any, is_of_layout, is_of_spelling}
 pub use Rattle.nccheck_laws.specs.Written.{AreWritten, CanonicalFieldsAreWritten, IsWritten, IsWrittenTag, IsWrittenVsize, WrittenFieldsAreCanonical, bytes_of, number_of}
-pub use Rattle.std.proofs.Common.{All, Bool, Err, IfSome, List, None, Ok, Option, Result, Some, [], ap, append-nil, append_assoc, ap₂, arith, codes, cond, drop, eqb-true, false, filter, flat_map, fold, get_or, if◌then◌else◌, inl, inr, le_refl, le_trans, leb, length, length-append, length-take-le, map, max, min, nat_lt, not, refl, replicate, slice_get, subst, suc, sum_by, sym, take, take_while, true, unwrap_or, zero, ℕ, ◌&&◌, ◌*◌, ◌++◌, ◌+◌, ◌-◌, ◌/◌, ◌<◌, ◌==◌, ◌^◌, ◌||◌, ◌↔◌, ◌∙◌, ◌∷◌, ◌≡◌, ◌≢◌, ◌≤◌, ◌⊎◌}
+pub use Rattle.std.proofs.Common.{All, Bool, Err, IfSome, List, None, Ok, Option, Result, Some, [], ap, append-nil, append_assoc, ap₂, arith, codes, cond, drop, eqb-true, false, filter, flat_map, fold, get_or, if◌then◌else◌, inl, inr, le_refl, le_trans, leb, length, length-append, length-take-le, map, max, min, nat_lt, not, refl, replicate, slice_get, subst, suc, sum_by, sym, take, take_while, true, unwrap_or, zero, ℕ, ◌&&◌, ◌*◌, ◌++◌, ◌+◌, ◌-◌, ◌/◌, ◌<◌, ◌==◌, ◌||◌, ◌↔◌, ◌∙◌, ◌∷◌, ◌≡◌, ◌≤◌, ◌⊎◌}
 pub use Rattle.std.proofs.Math.Nat.{mul-le-mul_right}
 pub use Rattle.std.proofs.Math.Seq.{drop-append_seam, take-append_seam, take-length}
 pub use Rattle.std.proofs.lemmas.Bool.{cases_lt, false≢true, le-ltb, leb-false, leb-true, lt-ltb, ltb-false}
@@ -83,7 +83,7 @@ pub use Rattle.std.proofs.lemmas.Bool.Decides.{nat_tests}
 pub use Rattle.std.proofs.lemmas.Cmp.{ranked, tied_itself, upto}
 pub use Rattle.std.proofs.lemmas.Grind.{common_steps}
 pub use Rattle.std.proofs.lemmas.List.{length-drop, length-map, length-take, map-append, take-append-le}
-pub use Rattle.std.proofs.lemmas.List.Elements.{All-append, All-cons, All-contains, All-get_or, All-head, All-map, All-nil, All-tail, All-weaker, Contains-append_cases, Contains-append_left, Contains-append_right, Contains-get_or}
+pub use Rattle.std.proofs.lemmas.List.Elements.{All-append, All-cons, All-contains, All-head, All-map, All-nil, All-tail, All-weaker, Contains-append_cases, Contains-append_left, Contains-append_right, Contains-get_or}
 pub use Rattle.std.proofs.lemmas.List.Folds.{Any-from_list_any, list_any-append, list_any_none}
 pub use Rattle.std.proofs.lemmas.List.FromFn.{get_or-map-range_with_len, length-map-range_with_len}
 pub use Rattle.std.proofs.lemmas.List.Kept.{AllPairs-cons}

@@ -2,7 +2,6 @@
 pub use Rattle.std.proofs.Common.{Bool, Err, List, None, Ok, Option, Result, Some, [], ap, append_assoc, ap₂, arith, codes, false, if◌then◌else◌, inl, inr, is_some, length, map, min, option_map, refl, rules, subst, sym, true, zip, ℕ, ◌++◌, ◌+◌, ◌-◌, ◌<◌, ◌^◌, ◌∙◌, ◌∷◌, ◌≡◌, ◌≤◌}
 pub use Rattle.cdl_statements.specs.Meaning.{meaning}
 pub use Rattle.cdl_statements.proofs.Meanings.{IsWhole, meanings_are_whole}
-pub use Rattle.cdl_statements.specs.Bounds.{out_of_memory}
 pub use Rattle.cdl_statements.specs.declared.fault.CdlFault.{CdlFault}
 pub use Rattle.clap.specs.Words.{app_of, is_simple, is_simple_and_free, new_app, new_rule, rule_of, with_rule}
 pub use Rattle.cli_base.specs.Arguments.{flag, option, quiet}
@@ -16,7 +15,7 @@ unfoldable pub use Rattle.nc_base.specs.GeneratedFile.{data_of, file_of, fill_by
 pub use Rattle.nc_base.specs.Grammar.{header_spelling}
 pub use Rattle.nc_base.specs.Headers.{IsSound, bare_var}
 pub use Rattle.nc_base.specs.code.OwedValues.{AreListed, whole_arrays}
-pub use Rattle.nc_base.specs.declared.{dataset.Dataset.Dataset, header.Header.Header, version.Version.Version}
+pub use Rattle.nc_base.specs.declared.{header.Header.Header, version.Version.Version}
 pub use Rattle.nc_walk.specs.code.RecordSlabs.{record_slabs}
 pub use Rattle.ncgen.specs.code.Options.{asked_for}
 unfoldable pub use Rattle.ncgen.specs.CommandLine.{asked_by, asked_in, ncgen}
