@@ -29,7 +29,7 @@ const WHOLE: Dump = Dump {
 };
 
 /// The dumps.
-const DUMPS: &[Dump] = &[
+static DUMPS: &[Dump] = &[
     WHOLE,
     Dump {
         file: test_files::ONE_VARIABLE_CDF5,

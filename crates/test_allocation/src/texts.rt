@@ -50,7 +50,7 @@ const NUMBERS_OF_CDF5: &[u8] = b"netcdf t {\ndimensions: t = UNLIMITED, x = 3 ;\
     data: a = 1, 2, 3, 4 ; c = _, 0xff ;\n}\n";
 
 /// Texts that give a file.
-const TEXTS: &[(Version, &[u8])] = &[
+static TEXTS: &[(Version, &[u8])] = &[
     (Version::Cdf1, ONE_VARIABLE),
     (Version::Cdf5, ONE_VARIABLE),
     (Version::Cdf1, FORTY_SHORTS),
@@ -62,7 +62,7 @@ const TEXTS: &[(Version, &[u8])] = &[
 ];
 
 /// Texts with a fault in the last statement, and with an array that is too large, and their faults.
-const FAULTY: &[(&[u8], CdlFault)] = &[
+static FAULTY: &[(&[u8], CdlFault)] = &[
     (
         b"netcdf t {\n:a = 1 ;\ndimensions: x = 3, y = 2 ;\nvariables: short s(x), r(y) ; s:u = \"m\" ;\n\
         data: r = 4 ;\ns = 1, 2 ;\nr = 5 ;\n}\n",

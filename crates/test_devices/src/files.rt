@@ -115,7 +115,7 @@ fn are_created<R: Files<File = File>>(
 /// Short paths, the longest one that the system takes with 194 shorter ones, and names in UTF-8.
 #[test]
 fn files_at_paths_of_every_length(rt: HostRuntime) -> Result<(), Fail> {
-    const NAMES: &[&str] = &[
+    static NAMES: &[&str] = &[
         "gr\u{f6}\u{df}e.bin",
         "\u{30c7}\u{30fc}\u{30bf}.bin",
         "\u{1f30d}.bin",

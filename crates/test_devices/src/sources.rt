@@ -23,7 +23,7 @@ fn expect_reads<S: Source>(rt: &impl Abort, source: &mut S, room: usize, reads: 
 const TEXT: &[u8] = b"abcdefghij";
 
 /// How many bytes a drip gives a read, when it fails, and reads with room for ten bytes.
-const DRIPS: &[(usize, FailWhen, &[Read])] = &[
+static DRIPS: &[(usize, FailWhen, &[Read])] = &[
     (1, FailWhen::Never, &[(0, Ok(1), b"a"), (7, Ok(1), b"h")]),
     (3, FailWhen::Never, &[(7, Ok(3), b"hij"), (9, Ok(1), b"j")]),
     (
@@ -49,9 +49,9 @@ const DRIPS: &[(usize, FailWhen, &[Read])] = &[
 
 #[test]
 fn reads_give_the_bytes_at_their_offset(rt: HostRuntime) {
-    const OF_MEMORY: &[Read] = &[(0, Ok(4), b"abcd"), (2, Ok(4), b"cdef"), (9, Ok(1), b"j")];
+    static OF_MEMORY: &[Read] = &[(0, Ok(4), b"abcd"), (2, Ok(4), b"cdef"), (9, Ok(1), b"j")];
     // stretches of three bytes, the second of which fails and is read again
-    const AHEAD: &[Read] = &[
+    static AHEAD: &[Read] = &[
         (1, Ok(2), b"bc"),
         (2, Ok(2), b"cd"),
         (0, Err(SourceFailed), b""),
@@ -148,7 +148,7 @@ fn given_for(rt: &impl Abort, all: &[Reads]) -> Given {
 /// Reads, how often the source is read for them, and how many bytes it gives. Near reads take stretches that grow from 4 to 64 KiB, and
 /// each far one takes 4 KiB. A big read takes what it has room for. A read of a byte that the stretch has takes nothing, even if it has
 /// room for more than the stretch has left.
-const AHEAD: &[(&[Reads], u64, u64)] = &[
+static AHEAD: &[(&[Reads], u64, u64)] = &[
     // a value; values side by side; one in each 40 bytes; the same one again
     (&[(0, 0, 1, 4)], 1, 4_096),
     (&[(0, 4, 50_000, 4)], 7, 258_048),

@@ -8,7 +8,7 @@ use std::process::Abort;
 use std::test::Fail;
 
 /// All kinds of errors but those that only the standard library makes.
-const KINDS: &[ErrorKind] = &[
+static KINDS: &[ErrorKind] = &[
     ErrorKind::NotFound,
     ErrorKind::PermissionDenied,
     ErrorKind::ConnectionRefused,
@@ -164,7 +164,7 @@ fn is_put(writer: &mut TwoByTwo, bytes: &[u8], is_whole: bool, writes: u32, take
 
 #[test]
 fn failed_write_is_not_tried_again_and_each_flush_is_passed_on(rt: HostRuntime) {
-    const ROWS: &[(Option<ErrorKind>, &[u8], bool, u32, usize)] = &[
+    static ROWS: &[(Option<ErrorKind>, &[u8], bool, u32, usize)] = &[
         (None, b"", true, 0, 0),
         (None, b"abcde", true, 3, 5),
         (None, b"abcdefghij", false, 5, 8),

@@ -72,7 +72,7 @@ const LONG_RECORDS: Long = Long {
 };
 
 /// Files of many numbers, records and characters, of a long attribute and of a long name.
-const FILES: &[Long] = &[
+static FILES: &[Long] = &[
     LONG_RECORDS,
     Long {
         bytes: test_files::ONE_VARIABLE,

@@ -86,7 +86,7 @@ const COORDINATES_HEAD: &[u8] =
     b"netcdf t {\ndimensions:\n\tx = 2 ;\nvariables:\n\tint x(x) ;\n\tint y(x) ;\n}\n";
 
 /// A file, words, and the text of the dump that they ask for.
-const DUMPS: &[(&[u8], &str, &[u8])] = &[
+static DUMPS: &[(&[u8], &str, &[u8])] = &[
     (LONG_LINE, "ncdump -n other t.nc", WIDE),
     (LONG_LINE, "ncdump -v v -n other -l 20 t.nc", NARROW),
     (LONG_LINE, "ncdump t.nc -vv -nother -l=20", NARROW),
@@ -113,15 +113,26 @@ const DUMPS: &[(&[u8], &str, &[u8])] = &[
 #[test]
 fn dumps_are_written(rt: HostRuntime) -> Result<(), Fail> {
     for (bytes, words, text) in DUMPS {
-        let run = Run {
-            bytes: *bytes,
-            words: *words,
-            text: *text,
-            ..WRITTEN
-        };
-        expect_run(&rt, rt.alloc(), &run)?;
+        expect_text(&rt, rt.alloc(), *bytes, *words, *text)?;
     }
     Ok(())
+}
+
+/// Fails unless a run on a file of these bytes writes this text.
+fn expect_text<'a>(
+    rt: &impl Abort,
+    alloc: Global,
+    bytes: &'a [u8],
+    words: &'a str,
+    text: &'a [u8],
+) -> Result<(), Fail> {
+    let run = Run {
+        bytes,
+        words,
+        text,
+        ..WRITTEN
+    };
+    expect_run(rt, alloc, &run)
 }
 
 /// Words that are answered with the usage, a run a line. The last has a word after ten that ask for a dump.
@@ -153,7 +164,7 @@ const USAGE_FAULTS: &str = "\
     ncdump -c -v s -n other -l 20 -- t.nc -h";
 
 /// Other runs that end with a line.
-const FAULTS: &[Run<'static>] = &[
+static FAULTS: &[Run<'static>] = &[
     Run {
         words: "ncdump -v s,nope t.nc",
         line: b"ncdump: t.nc: no such variable: item 1 of -v\n",
@@ -202,7 +213,7 @@ const FAULTS: &[Run<'static>] = &[
 ];
 
 /// Changes of the file with three shorts: an offset, the byte that stands there, and the line on the header.
-const CHANGED: &[(usize, u8, &[u8])] = &[
+static CHANGED: &[(usize, u8, &[u8])] = &[
     (0, b'D', b"ncdump: t.nc: not a netCDF classic file\n"),
     (3, 0x03, b"ncdump: t.nc: unknown version 3\n"),
     (3, 0x05, b"ncdump: t.nc: bad tag\n"),
@@ -227,14 +238,19 @@ const TRUNCATED: Run<'static> = Run {
 #[test]
 fn other_words_have_the_usage(rt: HostRuntime) -> Result<(), Fail> {
     for words in USAGE_FAULTS.split('\n') {
-        let run = Run {
-            words,
-            line: USAGE,
-            ..REFUSED
-        };
-        expect_run(&rt, rt.alloc(), &run)?;
+        expect_usage(&rt, rt.alloc(), words)?;
     }
     Ok(())
+}
+
+/// Fails unless these words are answered with the usage.
+fn expect_usage(rt: &impl Abort, alloc: Global, words: &str) -> Result<(), Fail> {
+    let run = Run {
+        words,
+        line: USAGE,
+        ..REFUSED
+    };
+    expect_run(rt, alloc, &run)
 }
 
 #[test]
@@ -244,13 +260,28 @@ fn faults_have_their_lines(rt: HostRuntime) -> Result<(), Fail> {
     }
     for (at, byte, line) in CHANGED {
         let file = patched(rt.alloc(), ONE_VARIABLE, *at, &[*byte])?;
-        let run = Run {
-            bytes: file.as_slice(),
-            line: *line,
-            ..REFUSED
-        };
-        expect_run(&rt, rt.alloc(), &run)?;
+        expect_refusal(&rt, rt.alloc(), file.as_slice(), *line)?;
     }
+    Ok(())
+}
+
+/// Fails unless the dump of a file of these bytes ends with this line.
+fn expect_refusal<'a>(
+    rt: &impl Abort,
+    alloc: Global,
+    bytes: &'a [u8],
+    line: &'a [u8],
+) -> Result<(), Fail> {
+    let run = Run {
+        bytes,
+        line,
+        ..REFUSED
+    };
+    expect_run(rt, alloc, &run)
+}
+
+#[test]
+fn cut_file_has_its_line(rt: HostRuntime) -> Result<(), Fail> {
     let bytes = ONE_VARIABLE.get(..83).ok_or("too few bytes")?;
     expect_run(&rt, rt.alloc(), &Run { bytes, ..TRUNCATED })
 }
@@ -262,20 +293,9 @@ fn long_command_lines(rt: HostRuntime) -> Result<(), Fail> {
     let mut names = String::from_str(rt.alloc(), "ncdump t.nc -nother -vv")?;
     for _ in 0..1100 {
         files.push_str(" t.nc")?;
-        let refused = Run {
-            words: files.as_str(),
-            line: USAGE,
-            ..REFUSED
-        };
-        expect_run(&rt, rt.alloc(), &refused)?;
+        expect_usage(&rt, rt.alloc(), files.as_str())?;
         names.push_str(",v")?;
-        let written = Run {
-            bytes: LONG_LINE,
-            words: names.as_str(),
-            text: WIDE,
-            ..WRITTEN
-        };
-        expect_run(&rt, rt.alloc(), &written)?;
+        expect_text(&rt, rt.alloc(), LONG_LINE, names.as_str(), WIDE)?;
     }
     Ok(())
 }
@@ -292,10 +312,17 @@ fn are_chosen(options: &DumpOptions, names: &[&[u8]]) -> bool {
     }
 }
 
+/// The options that a command line asks for.
+fn options_of_line(alloc: Global, line: &str) -> Result<DumpOptions, Fail> {
+    let words = words_of(alloc, line)?;
+    let matches = command(alloc)?.try_get_matches_from(words.as_slice())?;
+    Ok(options_of(alloc, &matches)?)
+}
+
 #[test]
 fn widths_and_names(rt: HostRuntime) -> Result<(), Fail> {
     // words, the width of lines, the name of the dataset, and those of variables
-    const ROWS: &[(&str, usize, &[u8], &[&[u8]])] = &[
+    static ROWS: &[(&str, usize, &[u8], &[&[u8]])] = &[
         ("ncdump -l 20 dir/a.b.nc", 20, b"a.b", &[]),
         ("ncdump -l 0080 dir/a.b.nc", 80, b"a.b", &[]),
         ("ncdump -l 1000 .nc", 1000, b".nc", &[]),
@@ -304,12 +331,9 @@ fn widths_and_names(rt: HostRuntime) -> Result<(), Fail> {
         ("ncdump -v a,,b t.nc", 80, b"t", &[b"a", b"", b"b"]),
     ];
     for (words, width, name, chosen) in ROWS {
-        let words = words_of(rt.alloc(), *words)?;
-        let command = command(rt.alloc())?;
-        let matches = command.try_get_matches_from(words.as_slice())?;
-        let options = options_of(rt.alloc(), &matches)?;
-        assert!(rt; options.width == *width && options.name.as_slice() == *name);
-        assert!(rt; are_chosen(&options, *chosen), "{chosen:?}");
+        let options = options_of_line(rt.alloc(), *words)?;
+        let is_right = options.width == *width && is_same(options.name.as_slice(), *name);
+        assert!(rt; is_right && are_chosen(&options, *chosen), "{words}");
     }
     Ok(())
 }

@@ -5,7 +5,7 @@ use crate::dump_rows::{
     RECORD_BYTES, SELECTION, WHOLE, Want, expect_dump, is_dumped, is_dumped_in_steps, options_of,
     text_of,
 };
-use devices::{FailWhen, FileSource};
+use devices::{FailWhen, FileSource, Source};
 use nc_base::FormatFault;
 use ncdump::DumpFault;
 use std::alloc::{AllocError, Global};
@@ -14,7 +14,7 @@ use std::process::Abort;
 use std::test::Fail;
 
 /// Files and their dumps, with all values and in lines of 80 bytes.
-const WHOLE_FILES: &[(&[u8], &[u8])] = &[
+static WHOLE_FILES: &[(&[u8], &[u8])] = &[
     (test_files::SMALLEST, b"netcdf t {\n}\n"),
     (test_files::SMALLEST_CDF5, b"netcdf t {\n}\n"),
     (
@@ -86,7 +86,7 @@ const COORDINATES: DumpRow<'static> = DumpRow {
 };
 
 /// Dumps of the header alone, and of some of the variables.
-const SELECTIONS: &[DumpRow<'static>] = &[
+static SELECTIONS: [DumpRow<'static>; 11] = [
     DumpRow {
         about: "the head of one variable",
         bytes: test_files::ONE_VARIABLE,
@@ -168,7 +168,7 @@ const LONG_ROW: &[u8] = b"CDF\x01\0\0\0\0\
     \0\x01\0\x02\0\x03";
 
 /// Dumps that other tests have rows of, and dumps in lines of 20 bytes.
-const VALUES: &[DumpRow<'static>] = &[
+static VALUES: [DumpRow<'static>; 11] = [
     ONE_VARIABLE,
     DumpRow {
         about: "one variable of CDF-2",
@@ -211,7 +211,7 @@ const VALUES: &[DumpRow<'static>] = &[
 ];
 
 /// Dumps of files that are changed where that is no fault, or the fault of a value, and of a source that fails.
-const CHANGED: &[DumpRow<'static>] = &[
+static CHANGED: [DumpRow<'static>; 8] = [
     DumpRow {
         about: "padding that is not 0",
         change: (21, b"\xff"),
@@ -279,37 +279,57 @@ fn expect_dumps(rt: &impl Abort, alloc: Global, rows: &[DumpRow<'_>]) -> Result<
 #[test]
 fn dumps_of_files(rt: HostRuntime) -> Result<(), AllocError> {
     for (bytes, text) in WHOLE_FILES {
-        let row = DumpRow {
-            about: "a whole file",
-            bytes: *bytes,
-            text: *text,
-            ..WHOLE
-        };
-        expect_dump(&rt, rt.alloc(), &row)?;
+        expect_whole(&rt, rt.alloc(), *bytes, *text)?;
     }
-    for rows in [SELECTIONS, VALUES, CHANGED] {
-        expect_dumps(&rt, rt.alloc(), rows)?;
-    }
-    Ok(())
+    expect_dumps(&rt, rt.alloc(), &SELECTIONS)?;
+    expect_dumps(&rt, rt.alloc(), &VALUES)?;
+    expect_dumps(&rt, rt.alloc(), &CHANGED)
+}
+
+/// Fails unless these bytes are dumped whole as this text.
+fn expect_whole<'a>(
+    rt: &impl Abort,
+    alloc: Global,
+    bytes: &'a [u8],
+    text: &'a [u8],
+) -> Result<(), AllocError> {
+    let row = DumpRow {
+        about: "a whole file",
+        bytes,
+        text,
+        ..WHOLE
+    };
+    expect_dump(rt, alloc, &row)
 }
 
 /// A selection through each buffer of 16 to 40 bytes, by reads of at most 1 to 9 bytes.
 #[test]
 fn selection_through_every_buffer(rt: HostRuntime) -> Result<(), Fail> {
-    let options = options_of(rt.alloc(), &SELECTION)?;
-    let text = text_of(rt.alloc(), &SELECTION)?;
+    for buffer_len in 16..=40 {
+        assert!(rt;
+            is_dumped_through(&rt, rt.alloc(), &SELECTION, buffer_len)?,
+            "{buffer_len} bytes"
+        );
+    }
+    Ok(())
+}
+
+/// Returns true if the row is dumped through a buffer of so many bytes, by reads of at most 1 to 9 bytes.
+fn is_dumped_through(
+    rt: &impl Abort,
+    alloc: Global,
+    row: &DumpRow<'_>,
+    buffer_len: usize,
+) -> Result<bool, AllocError> {
+    let options = options_of(alloc, row)?;
+    let text = text_of(alloc, row)?;
     let want = Want {
         options: &options,
         answer: Ok(()),
         text: text.as_slice(),
     };
-    for buffer_len in 16..=40 {
-        let buffer = (buffer_len, [1, 2, 3, 4, 5, 6, 7, 8, 9].as_slice());
-        let file = (SELECTION.bytes, FailWhen::Never);
-        let is_right = is_dumped_in_steps(&rt, rt.alloc(), file, buffer, &want);
-        assert!(rt; is_right, "{buffer_len} bytes");
-    }
-    Ok(())
+    let buffer = (buffer_len, [1, 2, 3, 4, 5, 6, 7, 8, 9].as_slice());
+    Ok(is_dumped_in_steps(rt, alloc, (row.bytes, row.fail), buffer, &want))
 }
 
 /// The last of some lengths of a file, which begin after those before, the variable and the value that is missing first, if one is, and the
@@ -317,7 +337,7 @@ fn selection_through_every_buffer(rt: HostRuntime) -> Result<(), Fail> {
 type Cut = (usize, Option<(usize, u128)>, &'static [u8]);
 
 /// Files that are cut after their header, or in the padding at their end. All prefixes of a header are refused.
-const CUT_FILES: &[(DumpRow<'static>, usize, &[Cut])] = &[
+static CUT_FILES: &[(DumpRow<'static>, usize, &[Cut])] = &[
     (
         ONE_VARIABLE,
         80,
@@ -428,20 +448,30 @@ fn dumps_of_cut_files(rt: HostRuntime) -> Result<(), AllocError> {
     Ok(())
 }
 
+/// Returns true if the source is dumped as the row says.
+fn is_dumped_as<S: Source>(
+    rt: &impl Abort,
+    alloc: Global,
+    source: &mut S,
+    row: &DumpRow<'_>,
+) -> Result<bool, AllocError> {
+    let options = options_of(alloc, row)?;
+    let text = text_of(alloc, row)?;
+    let want = Want {
+        options: &options,
+        answer: row.answer,
+        text: text.as_slice(),
+    };
+    Ok(is_dumped(rt, alloc, source, 16, &want))
+}
+
 #[test]
 fn dump_of_a_file_of_the_system(rt: HostRuntime) -> Result<(), Fail> {
     let path = "dumped_shorts.nc";
     fs::write(&rt, path, ONE_VARIABLE.bytes)?;
     let mut source = FileSource::open(&rt, path)?;
     fs::remove_file(&rt, path)?;
-    let options = options_of(rt.alloc(), &ONE_VARIABLE)?;
-    let text = text_of(rt.alloc(), &ONE_VARIABLE)?;
-    let want = Want {
-        options: &options,
-        answer: Ok(()),
-        text: text.as_slice(),
-    };
-    assert!(rt; is_dumped(&rt, rt.alloc(), &mut source, 16, &want));
+    assert!(rt; is_dumped_as(&rt, rt.alloc(), &mut source, &ONE_VARIABLE)?);
     assert!(rt; FileSource::open(&rt, path).is_err());
     Ok(())
 }

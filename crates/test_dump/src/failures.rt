@@ -71,7 +71,7 @@ const MANY_NULS: &[Stop] = &[
 ];
 
 /// Dumps whose every call fails in turn.
-const ROWS: &[Row] = &[
+static ROWS: &[Row] = &[
     (ONE_VARIABLE, 80, SHORTS),
     (ONE_VARIABLE_CDF5, 128, SHORTS),
     (SELECTION, 180, INTS),

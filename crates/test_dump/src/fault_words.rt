@@ -13,7 +13,7 @@ use std::error::Error;
 use std::test::Fail;
 
 /// All faults of a dump, the format's with each of its kinds, and their words.
-const FAULTS: &[(DumpFault, &str)] = &[
+static FAULTS: &[(DumpFault, &str)] = &[
     (DumpFault::OutOfMemory, "out of memory"),
     (DumpFault::ReadFailed, "read failed"),
     (DumpFault::WriteFailed, "write failed"),

@@ -27,7 +27,7 @@ fn selects(
 
 #[test]
 fn selected_variables(rt: HostRuntime) -> Result<(), Fail> {
-    const ROWS: &[(&[u8], bool, Option<&[&[u8]]>, Result<&[bool], DumpFault>)] = &[
+    static ROWS: &[(&[u8], bool, Option<&[&[u8]]>, Result<&[bool], DumpFault>)] = &[
         // the variables x and y
         (COORDINATES, false, None, Ok(&[true, true])),
         (COORDINATES, true, None, Ok(&[true, false])),

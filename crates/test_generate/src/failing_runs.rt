@@ -72,7 +72,7 @@ fn devices_that_fail(rt: HostRuntime) {
         held: 0,
         ..WRITES
     };
-    const RUNS: &[Run] = &[
+    static RUNS: &[Run] = &[
         WRITES,
         NONE_WRITTEN,
         Run {

@@ -7,7 +7,7 @@ use std::alloc::{AllocError, Global};
 use std::test::*;
 
 /// The kinds of faults of a CDL text, and their words.
-const KINDS: &[(CdlKind, &str)] = &[
+static KINDS: &[(CdlKind, &str)] = &[
     (CdlKind::BadToken, "bad token"),
     (CdlKind::BadNumber, "bad number"),
     (CdlKind::Syntax, "syntax"),

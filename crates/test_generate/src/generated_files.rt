@@ -17,7 +17,7 @@ fn gives_its_file(rt: &impl Abort, alloc: Global, row: &Row) -> Result<(), Alloc
 
 #[test]
 fn texts_give_their_files(rt: HostRuntime) -> Result<(), AllocError> {
-    const ROWS: &[Row] = &[
+    static ROWS: &[Row] = &[
         rows::NOTHING,
         rows::NOTHING_CDF5,
         rows::ONE_VARIABLE,

@@ -24,7 +24,7 @@ fn gives(
 
 #[test]
 fn bytes_up_to_the_limit_and_past_it(rt: HostRuntime) -> Result<(), AllocError> {
-    const ROWS: &[(&[u8], (usize, u64), u32, Result<(), TextFault>)] = &[
+    static ROWS: &[(&[u8], (usize, u64), u32, Result<(), TextFault>)] = &[
         (b"0123456789", (20, NEVER), 10, Ok(())),
         (b"0123456789a", (20, NEVER), 10, Err(TextFault::TooLong)),
         (b"0123456789", (20, 0), 10, Err(TextFault::ReadFailed)),

@@ -27,7 +27,7 @@ fn is_prepared(alloc: Global, text: &[u8], version: Version) -> bool {
 }
 
 /// Texts with a fault in each version, its line and its kind.
-const FAULTS: &[(&[u8], u64, CdlKind)] = &[
+static FAULTS: &[(&[u8], u64, CdlKind)] = &[
     (
         b"netcdf t {\ndimensions: x = 3 ;\nvariables: short s(x) ;\ndata:\n s = 1.5 ;\n}\n",
         5,

@@ -7,7 +7,7 @@ use std::process::Abort;
 use std::test::*;
 
 /// Files that come back as they are.
-const SAME: &[(Version, &[u8])] = &[
+static SAME: &[(Version, &[u8])] = &[
     (Cdf1, test_files::ONE_VARIABLE),
     (Cdf2, test_files::ONE_VARIABLE_CDF2),
     (Cdf5, test_files::ONE_VARIABLE_CDF5),

@@ -72,7 +72,7 @@ fn file_in(version: Version) -> &'static [u8] {
 }
 
 /// Words, and the path and the version of the file that they ask for.
-const FILES: &[(&str, &str, Version)] = &[
+static FILES: &[(&str, &str, Version)] = &[
     ("ncgen -b d/f.cdl", "f.nc", Version::Cdf1),
     ("ncgen -b -o x d/f.cdl", "x", Version::Cdf1),
     ("ncgen d/f.cdl -ox", "x", Version::Cdf1),
@@ -105,7 +105,7 @@ fn words_choose_the_output_and_its_version(rt: HostRuntime) -> Result<(), AllocE
 }
 
 /// Versions whose names have a space.
-const SPACED: &[(&str, Version)] = &[
+static SPACED: &[(&str, Version)] = &[
     ("64-bit offset", Version::Cdf2),
     ("64-bit data", Version::Cdf5),
 ];
@@ -139,7 +139,7 @@ fn is_path(path: &Option<String>, want: Option<&str>) -> bool {
 
 #[test]
 fn words_ask_for_options(rt: HostRuntime) -> Result<(), Fail> {
-    const ROWS: &[(&[&str], Asked)] = &[
+    static ROWS: &[(&[&str], Asked)] = &[
         (
             &["ncgen", "-b", "-k", "nc6", "d/f.cdl"],
             (Version::Cdf2, Some("f.nc"), Some("d/f.cdl")),
@@ -203,7 +203,7 @@ fn other_words_have_the_usage(rt: HostRuntime) -> Result<(), AllocError> {
 }
 
 /// Words, standard input, and the line; none where the text is only checked.
-const LINES: &[(&str, &[u8], &[u8])] = &[
+static LINES: &[(&str, &[u8], &[u8])] = &[
     ("ncgen", SHORTS, b""),
     ("ncgen d/f.cdl", b"", b""),
     (

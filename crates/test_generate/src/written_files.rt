@@ -44,7 +44,7 @@ fn fills_each(rt: &impl Abort, alloc: Global, row: &Row, step: usize) -> Result<
 
 #[test]
 fn sinks_of_every_length(rt: HostRuntime) -> Result<(), AllocError> {
-    const ROWS: &[Row] = &[
+    static ROWS: &[Row] = &[
         rows::ONE_VARIABLE,
         rows::ONE_VARIABLE_CDF5,
         rows::RANK_THREE,
@@ -102,7 +102,7 @@ const PAST_32_BITS_CDF5: &[u8] = b"CDF\x05\0\0\0\0\0\0\0\0\
 fn files_of_four_gigabytes(rt: HostRuntime) -> Result<(), AllocError> {
     const TEXT: &[u8] =
         b"netcdf t { dimensions: x = 1073741823 ; variables: int v(x) ; data: v = 5 ; }";
-    const ROWS: &[((Version, &[u8]), &[u8])] = &[
+    static ROWS: &[((Version, &[u8]), &[u8])] = &[
         ((Version::Cdf1, TEXT), LARGEST),
         ((Version::Cdf1, PAST_32_BITS), PAST_32_BITS_CDF1),
         ((Version::Cdf5, PAST_32_BITS), PAST_32_BITS_CDF5),
@@ -156,7 +156,7 @@ fn writes_of_long_files(rt: HostRuntime) -> Result<(), AllocError> {
     const FIXED: &str = "netcdf t {\ndimensions: x = 50000 ;\nvariables: short s(x) ;\ndata: s = 1";
     const RECORDS: &str =
         "netcdf t {\ndimensions: t = UNLIMITED ;\nvariables: short s(t) ;\ndata: s = 1";
-    const ROWS: &[(&str, (&str, usize), &str, u64, u64)] = &[
+    static ROWS: &[(&str, (&str, usize), &str, u64, u64)] = &[
         (FIXED, (", 1", 49_999), " ;\n}\n", 100_080, 40),
         (FIXED, (", 1", 2), " ;\n}\n", 100_080, 60),
         (RECORDS, (", 1", 49_999), " ;\n}\n", 100_080, 40),

@@ -10,7 +10,7 @@ use std::test::Fail;
 
 #[test]
 fn names_are_escaped(rt: HostRuntime) {
-    const ROWS: &[(&str, &str)] = &[
+    static ROWS: &[(&str, &str)] = &[
         ("data", "\\data"),
         ("2 b", "\\2\\ b"),
         ("x", "x"),
@@ -44,7 +44,7 @@ fn dimensions_and_variables_are_declared(rt: HostRuntime) -> Result<(), Fail> {
         vars: &[("s", &[], NcType::Int64, 0)],
         ..EMPTY
     };
-    const ATTS: &[NamedValues<'static>] = &[
+    static ATTS: &[NamedValues<'static>] = &[
         ("units", NcType::Char, "m"),
         ("valid_range", NcType::Short, "\u{ff}\u{fe}\x01\x00"),
     ];
@@ -66,7 +66,7 @@ fn note_text(alloc: Global, want: &str) -> Result<Vec<u8>, AllocError> {
 
 #[test]
 fn values_of_attributes_are_listed(rt: HostRuntime) -> Result<(), Fail> {
-    const ROWS: &[(NcType, &str, &str)] = &[
+    static ROWS: &[(NcType, &str, &str)] = &[
         (NcType::Char, "a\nb\n", "\"a\\n\",\n\t\t\t\"b\\n\""),
         (
             NcType::Char,

@@ -52,7 +52,7 @@ fn expect_bytes(
 
 #[test]
 fn rows_are_filled_up_where_they_are_read(rt: HostRuntime) -> Result<(), Fail> {
-    const CASES: &[(&[Row], &str, &str)] = &[
+    static CASES: &[(&[Row], &str, &str)] = &[
         (&[], "abc", "abc"),
         (&[("a", 2, b'.'), ("bc", 1, b'.')], "", "a..bc."),
         (&[("a", 2, b'.'), ("b", 2, b'.')], "cd", "a..b..cd"),

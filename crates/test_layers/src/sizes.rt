@@ -8,7 +8,7 @@ use std::test::Fail;
 #[test]
 fn slabs_leave_out_the_record_dimension_up_to_their_limit(rt: HostRuntime) -> Result<(), Fail> {
     // short lengths, and lengths near the limit of slabs and after it
-    const DIMS: &[NamedLength<'static>] = &[
+    static DIMS: &[NamedLength<'static>] = &[
         ("", 0),
         ("", 3),
         ("", 2),
@@ -17,7 +17,7 @@ fn slabs_leave_out_the_record_dimension_up_to_their_limit(rt: HostRuntime) -> Re
         ("", 281474976710657),
         ("", 9223372036854775807),
     ];
-    const ROWS: &[(&[u64], NcType, Option<u64>)] = &[
+    static ROWS: &[(&[u64], NcType, Option<u64>)] = &[
         (&[], NcType::Int, Some(4)),
         (&[1], NcType::Short, Some(6)),
         (&[0, 2, 2], NcType::Int, Some(16)),
@@ -55,7 +55,7 @@ const INT: NamedShape<'static> = ("i", &[0], NcType::Int, 0);
 const SQUARE: NamedShape<'static> = ("q", &[0, 1, 1], NcType::Int, 0);
 
 /// Variables, the size of a record, the length of a file and its number of records, and where the values of each variable end.
-const RECORDS: &[(&[NamedShape<'static>], u64, u64, u64, &[u128])] = &[
+static RECORDS: &[(&[NamedShape<'static>], u64, u64, u64, &[u128])] = &[
     (&[FIXED], 0, 139, 0, &[106]),
     // a sole narrow record variable is not padded
     (&[FIXED, BYTE], 1, 119, 3, &[106, 119]),
@@ -94,7 +94,7 @@ fn records_are_counted_from_the_least_begin(rt: HostRuntime) -> Result<(), Fail>
 fn sound_headers_have_known_dimensions_and_records_first(rt: HostRuntime) -> Result<(), Fail> {
     const ONE_RECORD_DIM: &[NamedLength<'static>] = &[("", 0), ("", 3)];
     const TWO_RECORD_DIMS: &[NamedLength<'static>] = &[("", 0), ("", 0)];
-    const ROWS: &[(&[NamedLength<'static>], &[u64], bool)] = &[
+    static ROWS: &[(&[NamedLength<'static>], &[u64], bool)] = &[
         (ONE_RECORD_DIM, &[0, 1], true),
         (ONE_RECORD_DIM, &[1, 0], false),
         (ONE_RECORD_DIM, &[2], false),

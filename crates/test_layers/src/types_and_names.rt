@@ -5,7 +5,7 @@ use nc_base::{NcType, Sequence, Version, fill_of, is_valid_name, stem};
 use std::test::Fail;
 
 /// The types in the order of `NcType::ALL`, each with the size, the code and the default fill value that `netcdf.h` gives it.
-const TYPES: &[(NcType, u64, u32, i128)] = &[
+static TYPES: &[(NcType, u64, u32, i128)] = &[
     (NcType::Byte, 1, 1, -127),
     (NcType::Char, 1, 2, 0),
     (NcType::Short, 2, 3, -32767),
@@ -42,7 +42,7 @@ fn types_are_those_of_the_format(rt: HostRuntime) {
 
 #[test]
 fn versions_have_bytes_and_limits(rt: HostRuntime) {
-    const LIMITS: &[(u8, Version, u64, u64, u64)] = &[
+    static LIMITS: &[(u8, Version, u64, u64, u64)] = &[
         (1, Version::Cdf1, 1 << 31, 1 << 31, 0xffff_ffff),
         (2, Version::Cdf2, 1 << 31, 1 << 63, 0xffff_ffff),
         (5, Version::Cdf5, 1 << 63, 1 << 63, u64::MAX),
@@ -60,7 +60,7 @@ fn versions_have_bytes_and_limits(rt: HostRuntime) {
 
 #[test]
 fn names_and_stems_keep_their_rules(rt: HostRuntime) {
-    const NAMES: &[(&[u8], bool)] = &[
+    static NAMES: &[(&[u8], bool)] = &[
         (b"x", true),
         (b"_a", true),
         (b"2b", true),
@@ -79,7 +79,7 @@ fn names_and_stems_keep_their_rules(rt: HostRuntime) {
         // half of a character
         (b"\xc3", false),
     ];
-    const PATHS: &[(&str, &str)] = &[
+    static PATHS: &[(&str, &str)] = &[
         ("dir/a.b.nc", "a.b"),
         (".nc", ".nc"),
         ("a", "a"),
@@ -99,7 +99,7 @@ fn names_and_stems_keep_their_rules(rt: HostRuntime) {
 const FILL: &str = "_FillValue";
 
 /// A type, attributes of a variable of the type, and the variable's fill value.
-const FILLS: &[(NcType, &[NamedValues<'static>], i128)] = &[
+static FILLS: &[(NcType, &[NamedValues<'static>], i128)] = &[
     (NcType::Short, &[("units", NcType::Char, "K")], -32767),
     (NcType::Byte, &[(FILL, NcType::Byte, "\u{81}")], -127),
     (

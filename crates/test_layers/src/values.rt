@@ -28,7 +28,7 @@ type Numbers = (NcType, Option<i128>, &'static [i128], &'static str);
 
 /// Numbers of few digits and of many, the least and the greatest of each type, and fill values: that of the type, which counts in types of
 /// two bytes and more, or the variable's own one.
-const NUMBERS: &[Numbers] = &[
+static NUMBERS: &[Numbers] = &[
     (
         NcType::Byte,
         None,
@@ -121,7 +121,7 @@ type Narrow = (&'static str, NcType, &'static [i128], &'static str);
 const LONG_NAME: &str = "abcdefghijklmnopqrstuvwxy";
 
 /// Lines that are full, and numbers that begin the next line.
-const LINES: &[Narrow] = &[
+static LINES: &[Narrow] = &[
     (
         "v",
         NcType::Byte,
@@ -188,7 +188,7 @@ const V: Row<'static> = Row {
 
 /// Rows are those of the last dimension. NULs wait for the character after them in their row; those at its end are left out, unless the
 /// variable has a fill value of its own or no other dimension than that of records.
-const ROWS: &[Row<'static>] = &[
+static ROWS: &[Row<'static>] = &[
     Row {
         ty: NcType::Uint64,
         lens: &[0, 1, 2],

@@ -46,7 +46,7 @@ type Patches = &'static [(usize, &'static [u8])];
 
 /// Headers, the files that begin with them, the bytes that differ there (the length of the dimension and the vsize; the length of the
 /// text and its padding), how many bytes they have, and their weights.
-const ROWS: &[(Version, HeaderRow<'static>, &[u8], Patches, usize, u128)] = &[
+static ROWS: &[(Version, HeaderRow<'static>, &[u8], Patches, usize, u128)] = &[
     (Version::Cdf1, SHORTS, ONE_VARIABLE, &[], 80, 5),
     (Version::Cdf2, SHORTS, ONE_VARIABLE_CDF2, &[], 84, 5),
     (Version::Cdf5, SHORTS, ONE_VARIABLE_CDF5, &[], 128, 5),
@@ -195,7 +195,7 @@ fn variables_begin_after_each_other(rt: HostRuntime) -> Result<(), Fail> {
         dims: &[("x", 2147483528)],
         ..TOO_LONG
     };
-    const ROWS: &[(Version, HeaderRow<'static>, u64, Option<&[u64]>)] = &[
+    static ROWS: &[(Version, HeaderRow<'static>, u64, Option<&[u64]>)] = &[
         (Version::Cdf1, RECORDS, 180, Some(&[184, 188, 180])),
         (Version::Cdf1, ALONE, 80, Some(&[80])),
         (Version::Cdf1, BOTH, 116, Some(&[116, 120])),

@@ -163,7 +163,7 @@ struct Row {
     fields: &'static [Field],
 }
 
-const HEADERS: &[Row] = &[
+static HEADERS: &[Row] = &[
     Row {
         bytes: ODD_HEADER,
         end: 124,

@@ -45,7 +45,7 @@ const OTHER_AFTER: Owner = VarAtt { var: 1, att: 1 };
 /// The name of a fill value.
 const FILL: Given = Bytes(b"_FillValue");
 
-const ROWS: &[Row] = &[
+static ROWS: &[Row] = &[
     // the longest names, and the highest ranks
     (
         &[

@@ -91,7 +91,7 @@ nccheck -i  names
 nccheck -i gap -i vsize names";
 
 /// Other runs.
-const OTHERS: &[Run<'_>] = &[
+static OTHERS: &[Run<'_>] = &[
     (&["nccheck", "-h"], ROOM, 0, HELP, b""),
     (&["nccheck", "-q", "-q", "-h", "-V"], ROOM, 0, HELP, b""),
     // a path with control characters and backslashes, which are escaped, and with quotes and letters, which are not
@@ -153,7 +153,7 @@ const UNREAD: Input<'_> = Input {
 };
 
 /// Runs over lists of paths: standard input, whether a read of it fails at last, and the run.
-const LISTS: &[(&[u8], bool, Run<'_>)] = &[
+static LISTS: &[(&[u8], bool, Run<'_>)] = &[
     (b"", false, (&["nccheck", "-0"], ROOM, 0, b"", b"")),
     (
         b"clean\0names\0",

@@ -25,7 +25,7 @@ const WITHOUT_DECLARATIONS: Texts = Texts {
 };
 
 /// Texts that declare something, and what is said of their datasets.
-const DATASETS: &[(&[u8], &str)] = &[
+static DATASETS: &[(&[u8], &str)] = &[
     (ONE_VARIABLE, ONE_VARIABLE_SAID),
     (ESCAPED_NAMES, ESCAPED_NAMES_SAID),
     (CONSTANTS, CONSTANTS_SAID),
@@ -225,7 +225,7 @@ e Char []
 
 #[test]
 fn texts_give_datasets(rt: HostRuntime) -> Result<(), AllocError> {
-    const ALL: &[Texts] = &[WITHOUT_DECLARATIONS];
+    static ALL: &[Texts] = &[WITHOUT_DECLARATIONS];
     check(&rt, rt.alloc(), ALL)?;
     for (text, said) in DATASETS {
         gives_in_each(&rt, rt.alloc(), VERSIONS, *text, said.as_bytes())?;

@@ -88,7 +88,7 @@ fn long_lists(alloc: Global, last: &str) -> Result<String, AllocError> {
 
 #[test]
 fn faults_after_long_lists(rt: HostRuntime) -> Result<(), AllocError> {
-    const ROWS: &[(&str, &str)] = &[
+    static ROWS: &[(&str, &str)] = &[
         ("1, 128, 3", "40006 NumberRange"),
         ("1, 2, 3, 4, 5, 6, 7, 8", "40006 TooManyValues"),
         ("1, 2, 3 4", "40006 Syntax"),
@@ -116,7 +116,7 @@ fn missing_values_are_not_declared(rt: HostRuntime) -> Result<(), AllocError> {
     const TEXT: &[u8] =
         b"netcdf t { dimensions: t = UNLIMITED, x = 2147483647 ; variables: short a(x), b(t, x), c(t) ; \
         data: b = 1 ; c = 2, 3 ; }";
-    const WANT: &[&[u8]] = &[b"", b"\0\x01", b"\0\x02\0\x03"];
+    static WANT: &[&[u8]] = &[b"", b"\0\x01", b"\0\x02\0\x03"];
     let found = declared(rt.alloc(), TEXT, Version::Cdf1).map_err(|_| AllocError)?;
     for (array, want) in found.listed.into_vec().into_iter().zip(WANT) {
         assert!(rt; lists(rt.alloc(), array, *want)?, "{want:?}");
@@ -127,7 +127,7 @@ fn missing_values_are_not_declared(rt: HostRuntime) -> Result<(), AllocError> {
 /// Arrays of 2^48 bytes, which are declared, but which memory can't hold.
 #[test]
 fn arrays_at_their_limit(rt: HostRuntime) {
-    const TEXTS: &[&[u8]] = &[
+    static TEXTS: &[&[u8]] = &[
         b"netcdf t { dimensions: x = 16777216 ; variables: byte b(x, x) ; }",
         b"netcdf t { dimensions: t = UNLIMITED, x = 16777216 ; variables: byte b(t, x, x), c(t) ; data: c = 1 ; }",
     ];

@@ -57,6 +57,6 @@ const ROWS: Texts = Texts {
 
 #[test]
 fn lists_have_their_values(rt: HostRuntime) -> Result<(), AllocError> {
-    const ALL: &[Texts] = &[BYTES, ROWS];
+    static ALL: &[Texts] = &[BYTES, ROWS];
     check(&rt, rt.alloc(), ALL)
 }

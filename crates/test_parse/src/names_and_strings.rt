@@ -124,6 +124,6 @@ abcdefghijklmnopqrstuvwxyz\x|3 BadToken
 
 #[test]
 fn names_and_strings_stand_for_bytes(rt: HostRuntime) -> Result<(), AllocError> {
-    const ALL: &[Texts] = &[NAMES, BYTES, STRINGS];
+    static ALL: &[Texts] = &[NAMES, BYTES, STRINGS];
     check(&rt, rt.alloc(), ALL)
 }

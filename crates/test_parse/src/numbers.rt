@@ -323,16 +323,16 @@ const LENGTHS_OF_OLD_VERSIONS: Texts = Texts {
 
 #[test]
 fn values_keep_to_their_ranges(rt: HostRuntime) -> Result<(), AllocError> {
-    const OLD: &[Texts] = &[BYTES, SHORTS, INTS, UNSET];
-    const NEW: &[Texts] = &[UBYTES, USHORTS, UINTS, INT64S, UINT64S, UNSET_OF_CDF5];
+    static OLD: &[Texts] = &[BYTES, SHORTS, INTS, UNSET];
+    static NEW: &[Texts] = &[UBYTES, USHORTS, UINTS, INT64S, UINT64S, UNSET_OF_CDF5];
     check(&rt, rt.alloc(), OLD)?;
     check(&rt, rt.alloc(), NEW)
 }
 
 #[test]
 fn constants_and_lengths_keep_to_their_ranges(rt: HostRuntime) -> Result<(), AllocError> {
-    const OF_CONSTANTS: &[Texts] = &[CONSTANTS, CONSTANTS_OF_CDF5, CONSTANTS_OF_OLD_VERSIONS];
-    const OF_LENGTHS: &[Texts] = &[LENGTHS, LENGTHS_OF_CDF5, LENGTHS_OF_OLD_VERSIONS];
+    static OF_CONSTANTS: &[Texts] = &[CONSTANTS, CONSTANTS_OF_CDF5, CONSTANTS_OF_OLD_VERSIONS];
+    static OF_LENGTHS: &[Texts] = &[LENGTHS, LENGTHS_OF_CDF5, LENGTHS_OF_OLD_VERSIONS];
     check(&rt, rt.alloc(), OF_CONSTANTS)?;
     check(&rt, rt.alloc(), OF_LENGTHS)
 }

@@ -204,6 +204,6 @@ uint64 v ;|2 UnknownType
 
 #[test]
 fn texts_are_refused(rt: HostRuntime) -> Result<(), AllocError> {
-    const ALL: &[Texts] = &[OPENINGS, ATTRIBUTES, DIMENSIONS, VARIABLES, OF_OLD_VERSIONS];
+    static ALL: &[Texts] = &[OPENINGS, ATTRIBUTES, DIMENSIONS, VARIABLES, OF_OLD_VERSIONS];
     check(&rt, rt.alloc(), ALL)
 }

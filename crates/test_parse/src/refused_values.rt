@@ -188,6 +188,6 @@ byte a(t, h, h), b(t) ; data: b = 1, 2 ;|4 TooLarge
 
 #[test]
 fn values_and_sizes_are_refused(rt: HostRuntime) -> Result<(), AllocError> {
-    const ALL: &[Texts] = &[SHORTS, SHORTS_AND_ROWS, VALUES, ROWS, LISTS, SIZES];
+    static ALL: &[Texts] = &[SHORTS, SHORTS_AND_ROWS, VALUES, ROWS, LISTS, SIZES];
     check(&rt, rt.alloc(), ALL)
 }

@@ -20,7 +20,7 @@ fn has_statements(alloc: Global, text: &str, lens: &[usize]) -> Result<bool, All
 
 #[test]
 fn texts_are_cut_into_statements(rt: HostRuntime) -> Result<(), AllocError> {
-    const ROWS: &[(&str, &[usize])] = &[
+    static ROWS: &[(&str, &[usize])] = &[
         ("netcdf t { x = 3 ; } y", &[1, 4, 1, 1, 1]),
         ("netcdf t {} y", &[1, 1, 1, 1]),
         ("netcdf t { dimensions: x = 3 }", &[1, 2, 4, 1]),
@@ -49,7 +49,7 @@ fn advancing_ends_where_statements_end(rt: HostRuntime) {
 fn tokens_have_kinds_places_and_lines(rt: HostRuntime) {
     const TEXT: &str = "netcdf t\n{ // a comment\n\\data=\"b\n\",-0x1f;\"";
     // the kind of each token, its line, and the offsets at which it begins and ends
-    const TOKENS: &[(TokenKind, u64, usize, usize)] = &[
+    static TOKENS: &[(TokenKind, u64, usize, usize)] = &[
         (TokenKind::Opening, 1, 0, 10),
         (TokenKind::Word, 3, 24, 29),
         (TokenKind::Mark, 3, 29, 30),

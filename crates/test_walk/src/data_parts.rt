@@ -98,7 +98,7 @@ fn expect_part(
 }
 
 /// A file with the header of a data part, what is listed of each variable, and the bytes of the part.
-const PARTS: &[(&[u8], &[Listed], &[u8])] = &[
+static PARTS: &[(&[u8], &[Listed], &[u8])] = &[
     // values that are all listed
     (
         ONE_VARIABLE,

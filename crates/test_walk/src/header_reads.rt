@@ -35,7 +35,7 @@ fn expect_failures(rt: &impl Abort, alloc: Global, row: (&[u8], usize, usize), h
 
 #[test]
 fn each_read_of_a_header_fails(rt: HostRuntime) {
-    const ROWS: &[(&[u8], usize, usize, u64)] = &[
+    static ROWS: &[(&[u8], usize, usize, u64)] = &[
         (ONE_VARIABLE, 1, 16, 80),
         (ONE_VARIABLE, 3, 17, 80),
         (ONE_VARIABLE, 7, 31, 80),

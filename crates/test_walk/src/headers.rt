@@ -87,7 +87,7 @@ fn expect_header(
 }
 
 /// A file, an offset in it, other bytes from there on, and the version and the begin that are read then. Padding and a vsize are free.
-const READ: &[(&[u8], usize, &[u8], Version, u64)] = &[
+static READ: &[(&[u8], usize, &[u8], Version, u64)] = &[
     (SMALLEST, 0, b"", Version::Cdf1, 0),
     (SMALLEST_CDF5, 0, b"", Version::Cdf5, 0),
     (ONE_VARIABLE, 0, b"", Version::Cdf1, 80),
@@ -98,7 +98,7 @@ const READ: &[(&[u8], usize, &[u8], Version, u64)] = &[
 ];
 
 /// A file, an offset in it, other bytes from there on, and the fault of the header then.
-const REFUSED: &[(&[u8], usize, &[u8], FormatFault)] = &[
+static REFUSED: &[(&[u8], usize, &[u8], FormatFault)] = &[
     (b"", 0, b"", FormatFault::NotNetcdf),
     (b"CDF", 0, b"", FormatFault::HeaderTruncated),
     (HOSTILE_COUNT, 0, b"", FormatFault::HeaderTruncated),

@@ -31,7 +31,7 @@ fn variables_by_their_names(rt: HostRuntime) {
         FormatFault::HeaderTruncated,
     )));
     const NONE: Result<(usize, usize), VariableFault> = Err(VariableFault::NoSuchVariable);
-    const ROWS: &[(&[u8], &[u8], Result<(usize, usize), VariableFault>)] = &[
+    static ROWS: &[(&[u8], &[u8], Result<(usize, usize), VariableFault>)] = &[
         (test_files::ONE_VARIABLE, b"s", Ok((0, 6))),
         // two records of an int, two of four ints, and an int
         (test_files::THREE_VARIABLES, b"a", Ok((0, 8))),

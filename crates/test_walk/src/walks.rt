@@ -100,7 +100,7 @@ const UNCHANGED: (usize, &[u8]) = (0, b"");
 const SHORTS: &[u8] = b"\0\x01\x80\x01\0\x03";
 
 /// Files of other versions, slabs beside others, and files that are changed.
-const WALKED: &[Walked] = &[
+static WALKED: &[Walked] = &[
     (ONE_VARIABLE_CDF2, UNCHANGED, 92, 0, SHORTS, Ok(())),
     (ONE_VARIABLE_CDF5, UNCHANGED, 136, 0, SHORTS, Ok(())),
     (
@@ -186,7 +186,7 @@ type Strided = (
     &'static [u8],
 );
 
-const STRIDED: &[Strided] = &[
+static STRIDED: &[Strided] = &[
     (ONE_VARIABLE, 80, 0, 80, 2, 2, SHORTS),
     (RECORD_BYTES, 80, 0, 80, 1, 1, b"\x01\x02\x03"),
     (PADDED_RECORDS, 116, 0, 116, 1, 8, b"\x01\x02\x03"),
@@ -247,7 +247,7 @@ fn values_cut_at_each_byte(rt: HostRuntime) -> Result<(), Fail> {
 }
 
 /// Walks from sources that fail, through a buffer of 16 bytes. What stands in the buffer is dropped then, and no read is tried again.
-const FAILING: &[(&[u8], FailWhen, Want<'static>)] = &[
+static FAILING: &[(&[u8], FailWhen, Want<'static>)] = &[
     (
         ONE_VARIABLE,
         FailWhen::From(80),
