@@ -104,11 +104,16 @@ fn values_of_attributes_are_listed(rt: HostRuntime) -> Result<(), Fail> {
         ),
     ];
     for (ty, vals, want) in ROWS {
-        let mut header = header_of(rt.alloc(), &EMPTY)?;
-        let note = att_of(rt.alloc(), "note", *ty, *vals)?;
-        header.gatts.push(note)?;
+        let header = noted(rt.alloc(), *ty, *vals)?;
         let text = note_text(rt.alloc(), *want)?;
         expect_head(&rt, rt.alloc(), &header, text.as_slice());
     }
     Ok(())
+}
+
+/// A header with the only attribute `note`, which has these values.
+fn noted(alloc: Global, ty: NcType, vals: &str) -> Result<Header, AllocError> {
+    let mut header = header_of(alloc, &EMPTY)?;
+    header.gatts.push(att_of(alloc, "note", ty, vals)?)?;
+    Ok(header)
 }

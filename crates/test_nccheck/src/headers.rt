@@ -11,6 +11,7 @@ use nc_fields::FieldName::{
 use nc_fields::Owner::{Dim, GlobalAtt, Header, Var, VarAtt};
 use nc_fields::{Content, Entry, FieldName, ListFault, Listing, Owner, Place, list_fields};
 use nc_report::check;
+use std::alloc::{AllocError, Global};
 use std::process::Abort;
 use std::test::Fail;
 use test_files::cut;
@@ -249,10 +250,8 @@ fn is_listing_of(listing: &Listing, row: &Row) -> bool {
 fn headers_have_their_fields(rt: HostRuntime) -> Result<(), Fail> {
     for row in HEADERS {
         let mut source = DripSource::new(row.bytes, 1, FailWhen::From(row.end));
-        match list_fields(rt.alloc(), &mut source, &mut [0xff; 16]) {
-            Ok(listing) => assert!(rt; is_listing_of(&listing, row), "{:?}", row.version),
-            Err(fault) => assert!(rt; false, "{fault}"),
-        }
+        let listing = list_fields(rt.alloc(), &mut source, &mut [0xff; 16])?;
+        assert!(rt; is_listing_of(&listing, row), "{}", row.end);
     }
     Ok(())
 }
@@ -296,10 +295,8 @@ fn headers_that_end_early(rt: HostRuntime) -> Result<(), Fail> {
     for row in HEADERS {
         for at in 0..row.end {
             let mut source = cut(row.bytes, at as usize);
-            match list_fields(rt.alloc(), &mut source, &mut [0; 16]) {
-                Ok(listing) => assert!(rt; is_listing_up_to(&listing, row, at), "{at}"),
-                Err(fault) => assert!(rt; false, "{fault}"),
-            }
+            let listing = list_fields(rt.alloc(), &mut source, &mut [0; 16])?;
+            assert!(rt; is_listing_up_to(&listing, row, at), "{at}");
         }
     }
     Ok(())
@@ -309,9 +306,17 @@ fn headers_that_end_early(rt: HostRuntime) -> Result<(), Fail> {
 #[test]
 fn failing_read(rt: HostRuntime) -> Result<(), Fail> {
     let mut source = DripSource::new(ODD_HEADER, 1, FailWhen::Read(50));
-    let answer = check(rt.alloc(), &mut source, &mut [0; 16]);
-    assert!(rt; matches!(&answer, Err(ListFault::ReadFailed)));
-    let words = format!(in rt.alloc(); "{}, {}", ListFault::OutOfMemory, ListFault::ReadFailed)?;
-    assert!(rt; words.as_str() == "out of memory, read failed");
+    let fails = matches!(
+        check(rt.alloc(), &mut source, &mut [0; 16]),
+        Err(ListFault::ReadFailed)
+    );
+    assert!(rt; fails);
+    assert!(rt; has_words(rt.alloc(), ListFault::OutOfMemory, "out of memory")?);
+    assert!(rt; has_words(rt.alloc(), ListFault::ReadFailed, "read failed")?);
     Ok(())
+}
+
+/// Returns true if these are the words of the fault.
+fn has_words(alloc: Global, fault: ListFault, words: &str) -> Result<bool, AllocError> {
+    Ok(format!(in alloc; "{fault}")?.as_str() == words)
 }

@@ -75,8 +75,25 @@ fn arrays_of(alloc: Global, listed: &[Listed]) -> Result<Vec<ListedArray>, Alloc
     Ok(arrays)
 }
 
-/// Writes the data part of these arrays under the header of a file to a sink that takes up to `room` bytes, 3 at a time, and fails unless
-/// it has taken what fits of these bytes.
+/// Writes the data part of these arrays under a header to a sink that takes up to `room` bytes, 3 at a time. Returns true if the arrays
+/// suit the header, and the sink has taken what fits of these bytes.
+fn is_written(
+    alloc: Global,
+    header: &Header,
+    arrays: &[ListedArray],
+    (data, room): (&[u8], usize),
+) -> Result<bool, AllocError> {
+    if !header.sound() || !are_listed(header, arrays) || room > data.len() {
+        return Ok(false);
+    }
+    let slabs = record_slabs(alloc, header)?;
+    let mut into = Vec::from_elem(alloc, 0, room)?;
+    let mut sink = SliceSink::new(into.as_mut_slice(), 3);
+    let is_whole = write_data(&mut sink, header, slabs.as_slice(), arrays).is_ok();
+    Ok(is_whole == (room == data.len()) && sink.taken() == &data[..room])
+}
+
+/// Fails unless the data part of these arrays under the header of a file is so, as far as `room` bytes go.
 fn expect_part(
     rt: &impl Abort,
     alloc: Global,
@@ -85,15 +102,8 @@ fn expect_part(
     (data, room): (&[u8], usize),
 ) -> Result<(), Fail> {
     let header = read_header(alloc, &mut MemSource::new(file), &mut [0; 16])?;
-    assert!(rt; header.sound());
-    assert!(rt; are_listed(&header, arrays));
-    assert!(rt; room <= data.len());
-    let slabs = record_slabs(alloc, &header)?;
-    let mut into = Vec::from_elem(alloc, 0, room)?;
-    let mut sink = SliceSink::new(into.as_mut_slice(), 3);
-    let is_whole = write_data(&mut sink, &header, slabs.as_slice(), arrays).is_ok();
-    assert!(rt; is_whole == (room == data.len()), "{data:?}");
-    assert!(rt; sink.taken() == &data[..room], "{data:?}");
+    let is_right = is_written(alloc, &header, arrays, (data, room))?;
+    assert!(rt; is_right, "{data:?}");
     Ok(())
 }
 
