@@ -19,7 +19,7 @@ pub use Rattle.nc_base.specs.Escapes.{begins_with_digit_or_mark, escaped_in_name
 pub use Rattle.nc_base.specs.code.Quoted.{is_literal, escaped_in, stands_for_itself}
 unfoldable pub use Rattle.nc_base.specs.Escapes.{escaped_name, escaped_text, is_reserved}
 pub use Rattle.nc_base.specs.HeadText.{broken_text, dim_name, joined, without_trailing_nuls}
-unfoldable pub use Rattle.nc_base.specs.HeadText.{att_line, att_lines, dim_len_text, dim_line, dim_lines, head_text, numbers_text, string_break, var_lines}
+unfoldable pub use Rattle.nc_base.specs.HeadText.{att_line, att_lines, dim_len_text, dim_line, dim_lines, numbers_text, string_break, var_lines}
 pub use Rattle.nc_base.specs.Numbers.{number_of, numbers_from}
 unfoldable pub use Rattle.nc_base.specs.Numbers.{numbers}
 pub use Rattle.nc_base.specs.Types.{number_suffix, size_of}
