@@ -1,8 +1,9 @@
 -- Definition. Findings at the end of the file: it ends before the values do, before their padding does, or after both. (The NetCDF Classic
--- Format Specification pads each slab, and nothing follows the data.)
-use Rattle.std.specs.Prelude.{ℕ, Bool, ◌+◌, ◌*◌, max, nat_lt, nat_le, ◌&&◌, if◌then◌else◌, List, [], ◌∷◌, ◌++◌, filter, map, fold, Option, Some, None}
+-- Format Specification pads each slab but those of a sole record variable of narrow values, and nothing follows the data.)
+use Rattle.std.specs.Prelude.{ℕ, Bool, ◌+◌, ◌-◌, ◌*◌, ◌==◌, max, nat_lt, nat_le, ◌&&◌, if◌then◌else◌, List, [], ◌∷◌, ◌++◌, filter, map, fold, Option, Some, None}
 use Rattle.std.specs.List.{range_with_len}
 use Rattle.std.specs.Option.{option_to_list, option_and_then}
+use Rattle.nc_base.specs.Bytes.{padding_len}
 use Rattle.nc_base.specs.declared.header.NumRecs.{NumRecs}
 use Rattle.nc_base.specs.declared.header.NumRecs.TheVariants.{Known, Streaming}
 use Rattle.nc_layout.specs.declared.{slot.Slot.Slot, slot.FileLayout.FileLayout, finding.LayoutFinding.LayoutFinding, blocks.Extent.Extent, file_end.SlabPlace.SlabPlace}
@@ -78,15 +79,31 @@ end_padding layout =
     finding_if (nat_le (values_end layout) layout.file_len && nat_lt layout.file_len (padding_end layout)) (places.Data layout.file_len)
     (facts.EndPadding layout.file_len (padding_end layout))
 
+-- how many bytes follow those that are used
+abbrev pub spare_len : FileLayout → ℕ
+spare_len layout = layout.file_len - used_end layout
+
+-- how many of them may be padding: what a sole record variable of narrow values lacks after its last record. netCDF-C writes it when it moves
+-- the records. (All other records have a multiple of four bytes.)
+abbrev pub spare_padding_len : FileLayout → ℕ
+spare_padding_len layout = if record_count layout == 0 then 0 else padding_len (record_size layout.slots)
+
+abbrev pub spare_padding : FileLayout → Option LayoutFinding
+spare_padding layout =
+    finding_if (nat_lt 0 (spare_len layout) && nat_le (spare_len layout) (spare_padding_len layout)) (places.Data (used_end layout))
+    (facts.EndPadding layout.file_len (used_end layout))
+
 -- how many whole records fit into the file, if the header counts fewer
-abbrev pub uncounted_records : FileLayout → NumRecs → Option ℕ
-uncounted_records layout (Known n) = if nat_lt n (records_by_length layout) then Some (records_by_length layout) else None
-uncounted_records layout Streaming = None
+abbrev pub numrecs_by_length : FileLayout → NumRecs → Option ℕ
+numrecs_by_length layout (Known n) = if nat_lt n (records_by_length layout) then Some (records_by_length layout) else None
+numrecs_by_length layout Streaming = None
 
 abbrev pub trailing : FileLayout → Option LayoutFinding
 trailing layout =
-    finding_if (nat_lt (used_end layout) layout.file_len) (places.Data (used_end layout))
-    (facts.Trailing layout.file_len (used_end layout) (uncounted_records layout layout.numrecs))
+    finding_if (nat_lt (spare_padding_len layout) (spare_len layout)) (places.Data (used_end layout))
+    (facts.Trailing layout.file_len (used_end layout) (numrecs_by_length layout layout.numrecs))
 
 unfoldable pub end_findings : FileLayout → List LayoutFinding
-end_findings layout = option_to_list (missing layout) ++ option_to_list (end_padding layout) ++ option_to_list (trailing layout)
+end_findings layout =
+    option_to_list (missing layout) ++ option_to_list (end_padding layout)
+    ++ option_to_list (spare_padding layout) ++ option_to_list (trailing layout)

@@ -1,9 +1,10 @@
 //! Findings at the end of the file.
 
-ghost use Rattle.std.specs.Prelude.{◌≡◌, ◌≤◌, ◌<◌, ◌+◌, ◌*◌, ◌++◌, ◌^◌, ℕ, OnOk, true, filter, max, nat_lt, if◌then◌else◌};
+ghost use Rattle.std.specs.Prelude.{◌≡◌, ◌≤◌, ◌<◌, ◌+◌, ◌*◌, ◌++◌, ◌^◌, ◌==◌, ℕ, OnOk, true, filter, max, nat_lt, if◌then◌else◌};
+ghost use Rattle.nc_base.specs.Bytes.{padding_len};
 ghost use Rattle.nc_layout.specs.Blocks.{blocks};
 ghost use Rattle.nc_layout.specs.Findings.{IsSoundLayout, IsSoundSlot};
-ghost use Rattle.nc_layout.specs.FileEnd.{record_slab, slabs_of, first_of, first_slab, is_cut, first_cut_slab, missing, end_padding, uncounted_records, trailing, end_findings};
+ghost use Rattle.nc_layout.specs.FileEnd.{record_slab, slabs_of, first_of, first_slab, is_cut, first_cut_slab, missing, end_padding, spare_len, spare_padding, numrecs_by_length, trailing, end_findings};
 ghost use Rattle.nc_layout.specs.code.Records.{AreRecords};
 ghost use Rattle.nc_layout.specs.code.BlockEnds.{AreEnds};
 
@@ -11,7 +12,7 @@ use crate::blocks::Extent;
 use crate::finding::{LayoutFact, LayoutFinding, LayoutPlace, Slab, finding_if, push_some};
 use crate::records::FileRecords;
 use crate::slot::{FileLayout, Slot};
-use nc_base::{NumRecs, Sequence};
+use nc_base::{NumRecs, Sequence, padding_len};
 use std::alloc::AllocError;
 
 /// The offsets at which the blocks of a file end (each variable that isn't a record variable, and all records), or the header if later.
@@ -53,6 +54,7 @@ pub(crate) fn push_end_findings(
     let ends = file_ends(layout, extents);
     push_some(found, missing(layout, records, ends))?;
     push_some(found, end_padding(layout, ends))?;
+    push_some(found, spare_padding(layout, records, ends))?;
     push_some(found, trailing(layout, records, ends))?;
     Ok(())
 }
@@ -130,20 +132,66 @@ fn end_padding(layout: &FileLayout, ends: BlockEnds) -> Option<LayoutFinding>
     )
 }
 
-/// Returns the finding that the file has bytes after the values and their padding, or `None`. Needs the layout's `records` and `ends`.
+/// Returns the finding that the padding of a sole record variable of narrow values follows the last record, where none belongs, or `None`.
+/// Needs the layout's `records` and `ends`.
+fn spare_padding(
+    layout: &FileLayout,
+    records: FileRecords,
+    ends: BlockEnds,
+) -> Option<LayoutFinding>
+    requires records { AreRecords layout.now records }
+    requires ends { AreEnds layout.now ends }
+    ensures { result ≡ spare_padding layout.now }
+{
+    let spare = spare_len(layout, ends);
+    if 0 < spare && spare <= spare_padding_len(records) as u128 {
+        Some(LayoutFinding {
+            place: LayoutPlace::Data(ends.used as u64),
+            fact: LayoutFact::EndPadding {
+                file_len: layout.file_len,
+                end: ends.used,
+            },
+        })
+    } else {
+        None
+    }
+}
+
+/// Returns how many bytes follow the blocks of the file. If any do, the blocks end below 2^64. Needs the layout's `ends`.
+fn spare_len(layout: &FileLayout, ends: BlockEnds) -> u128
+    requires { AreEnds layout.now ends }
+    ensures spare { result ≡ spare_len layout.now }
+    ensures end { 0 < result → ends.used < 2 ^ 64 }
+{
+    (layout.file_len as u128).saturating_sub(ends.used)
+}
+
+/// Returns how many bytes of padding the last record lacks: of a sole record variable of narrow values up to 3, and otherwise 0, also if
+/// there are no records. `records` are those of the layout.
+fn spare_padding_len(records: FileRecords) -> u64
+    ensures { result ≡ (if records.count == 0 then 0 else padding_len records.size) }
+{
+    if records.count == 0 {
+        0
+    } else {
+        padding_len(records.size as u128)
+    }
+}
+
+/// Returns the finding that the file has bytes after the values and any padding, or `None`. Needs the layout's `records` and `ends`.
 fn trailing(layout: &FileLayout, records: FileRecords, ends: BlockEnds) -> Option<LayoutFinding>
     requires records { AreRecords layout.now records }
     requires ends { AreEnds layout.now ends }
     ensures { result ≡ trailing layout.now }
 {
-    if ends.used < layout.file_len as u128 {
+    if spare_len(layout, ends) > spare_padding_len(records) as u128 {
         let end = ends.used as u64;
         Some(LayoutFinding {
             place: LayoutPlace::Data(end),
             fact: LayoutFact::Trailing {
                 file_len: layout.file_len,
                 end,
-                records: uncounted_records(layout, records),
+                records: numrecs_by_length(layout, records),
             },
         })
     } else {
@@ -153,9 +201,9 @@ fn trailing(layout: &FileLayout, records: FileRecords, ends: BlockEnds) -> Optio
 
 /// Returns the number of whole records that fit into the file if the header counts fewer, or `None`, also for the streaming mark. Needs the
 /// layout's `records`.
-fn uncounted_records(layout: &FileLayout, records: FileRecords) -> Option<u64>
+fn numrecs_by_length(layout: &FileLayout, records: FileRecords) -> Option<u64>
     requires { AreRecords layout.now records }
-    ensures { result ≡ uncounted_records layout.now layout.now.numrecs }
+    ensures { result ≡ numrecs_by_length layout.now layout.now.numrecs }
 {
     match layout.numrecs {
         NumRecs::Known(n) if n < records.by_length => Some(records.by_length),

@@ -127,14 +127,15 @@ pub enum LayoutFact {
         /// The first slab that isn't whole.
         slab: Slab,
     },
-    /// The file has all values, but ends before their padding does.
+    /// The file has all values, but ends before their padding does; or the last record of a sole record variable of narrow values has padding,
+    /// where none belongs.
     EndPadding {
         /// The bytes of the file.
         file_len: u64,
         /// The end of the values with their padding.
         end: u128,
     },
-    /// The file has bytes after the values and their padding.
+    /// The file has bytes after the values and any padding.
     Trailing {
         /// The bytes of the file.
         file_len: u64,

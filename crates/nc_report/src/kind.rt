@@ -97,7 +97,7 @@ pub enum Kind {
     Gap,
     /// The file ends before its values do.
     Missing,
-    /// The file ends before the padding of its values does.
+    /// The file ends before the padding of its values does, or the last record has padding where none belongs.
     EndPadding,
     /// The file goes on after the padding of its values.
     Trailing,

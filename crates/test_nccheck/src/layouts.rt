@@ -163,6 +163,17 @@ f:404: error: missing: var[3] "h" record 2: found 404 bytes, expected at least 4
 CLEAN ..415
 f:415: note: end-padding: data: found 415 bytes, expected 416
 
+# padding after the last of three records of a byte, as netCDF-C leaves it, and one byte more
+RECORD_BYTES ..86
+f:83: note: end-padding: data: found 86 bytes, expected 83
+
+RECORD_BYTES ..87
+f:83: violation: trailing: data: found 87 bytes, expected 83, or numrecs 7
+
+# no records, and so no padding
+RECORD_BYTES 4=00000000 ..81
+f:80: violation: trailing: data: found 81 bytes, expected 80, or numrecs 1
+
 CLEAN ..420
 f:416: violation: trailing: data: found 420 bytes, expected 416
 
