@@ -22,12 +22,12 @@ use Rattle.check_lines.specs.Messages.{Message, message_text, says}
 -- ---- fields at which reading stops
 
 -- the number that is the content of the field of this index, or 0
-abbrev pub number_at : List Entry → ℕ → ℕ
-number_at entries i = option_map_or (λ (e : Entry). number_of e.content) (slice_get entries i) 0
+abbrev pub number_of_field : List Entry → ℕ → ℕ
+number_of_field entries i = option_map_or (λ (e : Entry). number_of e.content) (slice_get entries i) 0
 
 -- the greatest type code of the version, which the second field of a header has
 abbrev pub last_type : List Entry → ℕ
-last_type entries = if number_at entries 1 == 5 then 11 else 6
+last_type entries = if number_of_field entries 1 == 5 then 11 else 6
 
 -- the tag of a list with elements
 abbrev pub tag_of : FieldName → ℕ
@@ -49,7 +49,7 @@ is_list_count field = false
 
 -- the field of this name, at which reading stops, is the number of a list's elements, and the tag before it is 0
 abbrev pub is_after_zero_tag : List Entry → FieldName → Bool
-is_after_zero_tag entries field = is_list_count field && (number_at entries (length entries - 2) == 0)
+is_after_zero_tag entries field = is_list_count field && (number_of_field entries (length entries - 2) == 0)
 
 abbrev pub below : ℕ → Message
 below limit = says (codes ": found _, expected below _") (FieldContent ∷ Number limit ∷ [])
@@ -66,9 +66,9 @@ fault_message l e fault.FloatingType = says (codes ": found _") (FieldType ∷ [
 fault_message l e fault.BadType = says (codes ": found _, expected 1 to _") (FieldType ∷ Number (last_type l.entries) ∷ [])
 -- a dimension id may be wrong only since it is that of the record dimension; the fifth field of a header is the number of dimensions
 fault_message l e fault.BadShape =
-    if nat_lt (number_of e.content) (number_at l.entries 4)
+    if nat_lt (number_of e.content) (number_of_field l.entries 4)
     then says (codes ": found _, expected no record dimension here") (FieldContent ∷ [])
-    else below (number_at l.entries 4)
+    else below (number_of_field l.entries 4)
 fault_message l e fault.TwoRecordDims = says (codes ": found _, expected at least 1") (FieldContent ∷ [])
 fault_message l e fault.BadOffset = below (top_bit_limit e.size)
 fault_message l e fault.TooLarge = says [] []

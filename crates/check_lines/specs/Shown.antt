@@ -39,8 +39,8 @@ abbrev pub dots : ℕ → Bytes → Bytes
 dots longest bytes = if nat_le (length bytes) longest then [] else codes "..."
 
 -- the length of the longest name that is shown whole
-abbrev pub longest_name : ℕ
-longest_name = 256
+abbrev pub longest_shown_name : ℕ
+longest_shown_name = 256
 
 -- the greatest length of a path that is opened, and of one that is shown whole
 abbrev pub longest_path : ℕ
@@ -48,7 +48,7 @@ longest_path = 65535
 
 -- a name between quotes
 unfoldable pub shown_name : Bytes → Bytes
-shown_name name = concat_parts (codes "\"" ∷ shown Quoted longest_name name ∷ codes "\"" ∷ dots longest_name name ∷ [])
+shown_name name = concat_parts (codes "\"" ∷ shown Quoted longest_shown_name name ∷ codes "\"" ∷ dots longest_shown_name name ∷ [])
 
 unfoldable pub shown_path : Bytes → Bytes
 shown_path file = concat_parts (shown Bare longest_path file ∷ dots longest_path file ∷ [])

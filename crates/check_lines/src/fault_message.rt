@@ -1,13 +1,19 @@
 //! What a line says of a field at which reading stops.
 
 ghost use Rattle.std.specs.Prelude.{◌≡◌};
-ghost use Rattle.check_lines.specs.Details.{below, fault_message, is_after_zero_tag, is_list_count, last_type, number_at, tag_of, top_bit_limit};
+ghost use Rattle.check_lines.specs.Details.{below, fault_message, is_after_zero_tag, is_list_count, last_type, number_of_field, tag_of, top_bit_limit};
 ghost use Rattle.check_lines.specs.code.Written.{message_of};
 
 use crate::message::Part::{FieldContent, FieldType, Long, Nothing, Number};
 use crate::message::{CONTENT, Message, NO_PARTS};
 use nc_base::FormatFault;
 use nc_fields::{Entry, FieldName, Listing};
+
+/// The index of the version among the fields of a header, of which `CDF` is the first.
+const VERSION_FIELD: usize = 1;
+
+/// The index of the number of dimensions: the number of records and the tag of the dimensions come between the version and it.
+const DIMS_COUNT_FIELD: usize = 4;
 
 /// Returns the message for the field `entry`, at which reading the header stopped with `fault`: what is found there, and what is expected,
 /// or an empty text if `fault` says no more. This is the last field of the listing, but no clause says so.
@@ -33,12 +39,13 @@ pub(crate) fn fault_message(listing: &Listing, entry: &Entry, fault: FormatFault
             ": found _, expected 0",
             CONTENT,
         ),
-        FormatFault::BadShape if entry.content.number() < number_at(entries, 4) => (
+        FormatFault::BadShape
+            if entry.content.number() < number_of_field(entries, DIMS_COUNT_FIELD) => (
             ": found _, expected no record dimension here",
             CONTENT,
         ),
         FormatFault::BadCount | FormatFault::BadOffset => return below(top_bit_limit(entry.size)),
-        FormatFault::BadShape => return below(number_at(entries, 4)),
+        FormatFault::BadShape => return below(number_of_field(entries, DIMS_COUNT_FIELD)),
         FormatFault::BadName | FormatFault::TooLarge => ("", NO_PARTS),
         FormatFault::FloatingType => (": found _", [FieldType, Nothing, Nothing]),
         FormatFault::BadType => (
@@ -65,7 +72,7 @@ pub(crate) fn below(limit: u64) -> Message
 fn is_after_zero_tag(entries: &[Entry], name: FieldName) -> bool
     ensures { result ≡ is_after_zero_tag entries.now name }
 {
-    is_list_count(name) && number_at(entries, entries.len().saturating_sub(2)) == 0
+    is_list_count(name) && number_of_field(entries, entries.len().saturating_sub(2)) == 0
 }
 
 /// Returns true if a field of this name is the number of elements of a list: of dimensions, attributes or variables.
@@ -104,12 +111,16 @@ fn top_bit_limit(size: u128) -> u64
 fn last_type(entries: &[Entry]) -> u64
     ensures { result ≡ last_type entries.now }
 {
-    if number_at(entries, 1) == 5 { 11 } else { 6 }
+    if number_of_field(entries, VERSION_FIELD) == 5 {
+        11
+    } else {
+        6
+    }
 }
 
 /// Returns the number that is the content of the field at the index `i`, or 0 if there is no such field, or its content isn't a number.
-fn number_at(entries: &[Entry], i: usize) -> u64
-    ensures { result ≡ number_at entries.now i }
+fn number_of_field(entries: &[Entry], i: usize) -> u64
+    ensures { result ≡ number_of_field entries.now i }
 {
     match entries.get(i) {
         Some(entry) => entry.content.number(),

@@ -25,7 +25,7 @@ enum Form {
 pub const LONGEST_PATH: usize = 65_535;
 
 /// The length of the longest name that is shown whole, in bytes.
-const LONGEST_NAME: usize = 256;
+const LONGEST_SHOWN_NAME: usize = 256;
 
 /// How many bytes are shown of what is too long to be shown whole.
 const SHOWN_OF_LONG: usize = 64;
@@ -38,9 +38,9 @@ pub(crate) fn put_name<W: Sink>(sink: &mut W, name: &[u8]) -> Result<(), WriteFa
     ensures { Wrote W.view sink.old sink.new (shown_name name.now) result }
 {
     put(sink, b"\"")?;
-    put_shown(sink, Form::Quoted, LONGEST_NAME, name)?;
+    put_shown(sink, Form::Quoted, LONGEST_SHOWN_NAME, name)?;
     put(sink, b"\"")?;
-    put(sink, dots(LONGEST_NAME, name))
+    put(sink, dots(LONGEST_SHOWN_NAME, name))
 }
 
 /// Writes a path as the lines of findings show it: without quotes, and with the escapes of a string in a dump for control characters and

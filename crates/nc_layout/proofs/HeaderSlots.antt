@@ -1,5 +1,5 @@
 -- The slots of a header's variables: which have records, and how many bytes they take.
-use Rattle.nc_layout.proofs.Prelude.{common_steps, take_more, get_or-map, length-map, All-push, sum-map, Dim, Header, Var, record_vars, padded_size, padded_total, slab_size, slab_limit, Slot, padded_slab, record_slots, IsSoundSlot, IsSoundLayout, slot_of, layout_of, ◌≡◌, ℕ, ◌+◌, ◌<◌, ◌≤◌, Bool, List, [], ◌∷◌, ◌++◌, length, get_or, take, map, sum_by, refl, subst, arith, All, if◌then◌else◌}
+use Rattle.nc_layout.proofs.Prelude.{common_steps, take_more, get_or-map, length-map, All-push, sum-map, Dim, Header, Var, record_vars, padded_size, padded_total, slab_size, slab_limit, Slot, padded_slab_len, record_slots, IsSoundSlot, IsSoundLayout, slot_of, layout_of, ◌≡◌, ℕ, ◌+◌, ◌<◌, ◌≤◌, Bool, List, [], ◌∷◌, ◌++◌, length, get_or, take, map, sum_by, refl, subst, arith, All, if◌then◌else◌}
 
 -- ---- the slots of a loop
 
@@ -22,7 +22,7 @@ slots_more dims vars i slots x lt at small so_far =
 -- ---- their bytes
 
 -- the padded slabs of these variables
-pub slots-total : (dims : List Dim) (vars : List Var) → sum_by padded_slab (map (slot_of dims) vars) ≡ sum_by (padded_size dims) vars
+pub slots-total : (dims : List Dim) (vars : List Var) → sum_by padded_slab_len (map (slot_of dims) vars) ≡ sum_by (padded_size dims) vars
 slots-total dims [] = refl
 slots-total dims (var ∷ vars) = grind (arith, common_steps, slots-total dims vars)
 
@@ -36,7 +36,7 @@ record_slots-are dims [] = refl
 record_slots-are dims (var ∷ vars) = grind (arith, kept-slot, record_slots-are dims vars)
 
 pub record_slots-total : (dims : List Dim) (vars : List Var)
-    → sum_by padded_slab (record_slots (map (slot_of dims) vars)) ≡ padded_total dims (record_vars dims vars)
+    → sum_by padded_slab_len (record_slots (map (slot_of dims) vars)) ≡ padded_total dims (record_vars dims vars)
 record_slots-total dims vars = grind (arith, record_slots-are, slots-total, sum-map)
 
 -- ---- sound layouts

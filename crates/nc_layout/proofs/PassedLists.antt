@@ -1,5 +1,5 @@
 -- What is kept of the slots that a loop has passed, one slot on.
-use Rattle.nc_layout.proofs.Prelude.{nat_tests, list_any, prefix_len, common_steps, fold-append, at_drop_more, take_more, map-append, length-take-le, filter-append, All-head, All-tail, position_or_len_push, sum_by-append, take-append-drop, ForSome, Slot, PassedSlots, padded_slab, is_fixed, record_slots, records_begin, IsSoundSlot, greatest_begin, fixed_slot_at, bytes_before, has_successor, order, HasPassed, passed_after, next_has_successor, is_record_slot, order_after, ◌≡◌, ℕ, ◌+◌, ◌<◌, ◌≤◌, max, min, Bool, true, false, not, List, [], ◌∷◌, ◌++◌, length, get_or, drop, take, map, fold, filter, sum_by, count_by, refl, sym, ◌∙◌, ap, arith, Option, Some, ◌^◌, All, if◌then◌else◌, nat_lt, ◌==◌, ◌&&◌, is_some, slice_get}
+use Rattle.nc_layout.proofs.Prelude.{nat_tests, list_any, prefix_len, common_steps, fold-append, at_drop_more, take_more, map-append, length-take-le, filter-append, All-head, All-tail, position_or_len_push, sum_by-append, take-append-drop, ForSome, Slot, PassedSlots, padded_slab_len, is_fixed, record_slots, records_begin, IsSoundSlot, greatest_begin, fixed_slot_at, bytes_before, has_successor, order, HasPassed, passed_after, next_has_successor, is_record_slot, order_after, ◌≡◌, ℕ, ◌+◌, ◌<◌, ◌≤◌, max, min, Bool, true, false, not, List, [], ◌∷◌, ◌++◌, length, get_or, drop, take, map, fold, filter, sum_by, count_by, refl, sym, ◌∙◌, ap, arith, Option, Some, ◌^◌, All, if◌then◌else◌, nat_lt, ◌==◌, ◌&&◌, is_some, slice_get}
 use Rattle.std.proofs.lemmas.Option.{slice_get_within, get_or_from_slice_get}
 use Rattle.nc_layout.proofs.SweptBlocks.{greatest_from-ge}
 
@@ -41,7 +41,7 @@ records_begin-small [] b sound is = cc
 records_begin-small (slot ∷ slots) b sound is =
     grind (arith, All-head IsSoundSlot slot slots sound, fold_min-le, records_begin-small slots b (All-tail IsSoundSlot slot slots sound))
 
-pub bytes_before-le : (slots : List Slot) (i : ℕ) → bytes_before slots i ≤ sum_by padded_slab (record_slots slots)
+pub bytes_before-le : (slots : List Slot) (i : ℕ) → bytes_before slots i ≤ sum_by padded_slab_len (record_slots slots)
 bytes_before-le slots i =
     let split = ap record_slots (sym (take-append-drop i slots)) in grind (arith, common_steps, filter-append, sum_by-append)
 
@@ -112,6 +112,6 @@ pub begin_is_small : (slots : List Slot) (o : Option ℕ) → All IsSoundSlot sl
     → ForSome o (λ begin. begin < 2 ^ 63)
 begin_is_small slots o sound is = λ begin at. records_begin-small slots begin sound (sym is ∙ at)
 
-pub bytes_are_small : (slots : List Slot) (i bytes : ℕ) → bytes ≡ bytes_before slots i → sum_by padded_slab (record_slots slots) ≤ 2 ^ 62
+pub bytes_are_small : (slots : List Slot) (i bytes : ℕ) → bytes ≡ bytes_before slots i → sum_by padded_slab_len (record_slots slots) ≤ 2 ^ 62
     → bytes ≤ 2 ^ 62
 bytes_are_small slots i bytes is small = omega (arith, bytes_before-le slots i)

@@ -10,7 +10,7 @@ unfoldable pub use Rattle.nc_layout.specs.Findings.{layout_findings}
 pub use Rattle.nc_layout.specs.HeaderLayout.{layout_of, slot_of}
 pub use Rattle.nc_layout.specs.SlotRules.{bytes_before, fixed_slot_at, greatest_begin, has_successor, order}
 unfoldable pub use Rattle.nc_layout.specs.SlotRules.{slot_findings}
-pub use Rattle.nc_layout.specs.Slots.{is_fixed, is_sole_narrow, least, padded_slab, record_count, record_slots, slab_in_record}
+pub use Rattle.nc_layout.specs.Slots.{is_fixed, is_sole_narrow, least, padded_slab_len, record_count, record_slots, slab_in_record}
 unfoldable pub use Rattle.nc_layout.specs.Slots.{record_size, records_begin}
 pub use Rattle.nc_layout.specs.code.PassedSlots.{HasPassed, is_record_slot, next_has_successor, order_after, passed_after}
 pub use Rattle.nc_layout.specs.code.Records.{least_with, slab_if}

@@ -1,5 +1,5 @@
 -- What is left of a list of slots in a loop, one slot on.
-use Rattle.nc_layout.proofs.Prelude.{common_steps, sum_by-cons, sum_by-le-sum_by, Slot, padded_slab, is_sole_narrow, record_slots, slab_in_record, record_size, records_begin, least, least_with, slab_if, ◌≡◌, ℕ, ◌+◌, ◌<◌, ◌≤◌, min, Bool, true, List, [], ◌∷◌, length, get_or, drop, map, fold, sum_by, refl, ap, arith, Option, Some, None, ◌^◌}
+use Rattle.nc_layout.proofs.Prelude.{common_steps, sum_by-cons, sum_by-le-sum_by, Slot, padded_slab_len, is_sole_narrow, record_slots, slab_in_record, record_size, records_begin, least, least_with, slab_if, ◌≡◌, ℕ, ◌+◌, ◌<◌, ◌≤◌, min, Bool, true, List, [], ◌∷◌, length, get_or, drop, map, fold, sum_by, refl, ap, arith, Option, Some, None, ◌^◌}
 
 -- the record slots from index i on
 abbrev pub rest : List Slot → ℕ → List Slot
@@ -36,14 +36,14 @@ unfolding record_size
 record_size_is slots narrow is = ap (λ b. sum_by (slab_if b) (record_slots slots)) is
 
 -- a record isn't larger than its padded slabs
-pub record_size_le : (slots : List Slot) → record_size slots ≤ sum_by padded_slab (record_slots slots)
+pub record_size_le : (slots : List Slot) → record_size slots ≤ sum_by padded_slab_len (record_slots slots)
 unfolding record_size
 record_size_le slots =
-    sum_by-le-sum_by (slab_in_record slots) padded_slab (record_slots slots) (λ slot. grind arith)
+    sum_by-le-sum_by (slab_in_record slots) padded_slab_len (record_slots slots) (λ slot. grind arith)
 
 -- the next slab fits into the record
 pub record_size_fits : (slots : List Slot) (narrow : Bool) (i size : ℕ) (d : Slot) → i < length slots → (get_or slots i d).is_record ≡ true
-    → size + sum_by (slab_if narrow) (rest slots i) ≡ record_size slots → sum_by padded_slab (record_slots slots) ≤ 2 ^ 62
+    → size + sum_by (slab_if narrow) (rest slots i) ≡ record_size slots → sum_by padded_slab_len (record_slots slots) ≤ 2 ^ 62
     → size + slab_if narrow (get_or slots i d) ≤ 2 ^ 62
 record_size_fits slots narrow i size d lt is inv small =
     let step = sum_by-cons (slab_if narrow) (get_or slots i d) (rest slots (i + 1)) in

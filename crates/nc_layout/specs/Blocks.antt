@@ -5,7 +5,7 @@ use Rattle.std.specs.Prelude.{ℕ, ◌+◌, ◌-◌, ◌*◌, max, Bool, true, f
 use Rattle.std.specs.Option.{option_map_or}
 use Rattle.nc_layout.specs.declared.{slot.Slot.Slot, slot.FileLayout.FileLayout, finding.Block.Block, blocks.Extent.Extent}
 use Rattle.nc_layout.specs.declared.finding.Block.TheVariants.{Var, Records}
-use Rattle.nc_layout.specs.Slots.{padded_slab, is_fixed, record_slots, slab_in_record, record_size, records_begin, record_count}
+use Rattle.nc_layout.specs.Slots.{padded_slab_len, is_fixed, record_slots, slab_in_record, record_size, records_begin, record_count}
 
 -- what f gives of each slot and its index, which counts from i
 abbrev pub each_slot : {A : Type 0} → (ℕ → Slot → List A) → ℕ → List Slot → List A
@@ -17,7 +17,7 @@ each_slot f i (slot ∷ slots) = f i slot ++ each_slot f (i + 1) slots
 -- the block of a slot that isn't a record slot, at this index
 abbrev pub slot_block : ℕ → Slot → Extent
 slot_block i slot =
-    record { block = Var i; var = i; begin = slot.begin; end = slot.begin + slot.slab; padded_end = slot.begin + padded_slab slot }
+    record { block = Var i; var = i; begin = slot.begin; end = slot.begin + slot.slab; padded_end = slot.begin + padded_slab_len slot }
 
 -- the block of the slot at this index, unless it is a record slot
 abbrev pub fixed_block : ℕ → Slot → List Extent

@@ -2,7 +2,7 @@
 use Rattle.std.specs.Prelude.{◌≤◌, ◌<◌, ◌^◌, List, ◌++◌, All, sum_by, flat_map}
 use Rattle.nc_base.specs.Sizes.{slab_limit, record_limit}
 use Rattle.nc_layout.specs.declared.{slot.Slot.Slot, slot.FileLayout.FileLayout, finding.LayoutFinding.LayoutFinding}
-use Rattle.nc_layout.specs.Slots.{padded_slab, record_slots}
+use Rattle.nc_layout.specs.Slots.{padded_slab_len, record_slots}
 use Rattle.nc_layout.specs.Blocks.{each_slot, blocks}
 use Rattle.nc_layout.specs.NumRecsRules.{numrecs_findings}
 use Rattle.nc_layout.specs.SlotRules.{slot_findings}
@@ -18,7 +18,7 @@ pub record IsSoundSlot (slot : Slot) : Type 0 where
 -- the slots are sound, the padded slabs of the record slots keep the limit on a record, and the header ends inside of the file
 pub record IsSoundLayout (layout : FileLayout) : Type 0 where
   pub sound_slots : All IsSoundSlot layout.slots
-  pub small_record : sum_by padded_slab (record_slots layout.slots) ≤ record_limit
+  pub small_record : sum_by padded_slab_len (record_slots layout.slots) ≤ record_limit
   pub header_inside : layout.header_end ≤ layout.file_len
 
 -- those at the fields of the header, at the end of the file and at the begins of blocks

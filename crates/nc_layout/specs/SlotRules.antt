@@ -10,7 +10,7 @@ use Rattle.nc_base.specs.declared.version.Version.TheVariants.{Cdf1, Cdf2, Cdf5}
 use Rattle.nc_layout.specs.declared.{slot.Slot.Slot, slot.FileLayout.FileLayout, finding.LayoutFinding.LayoutFinding}
 use Rattle.nc_layout.specs.declared.finding.LayoutPlace.TheVariants as places
 use Rattle.nc_layout.specs.declared.finding.LayoutFact.TheVariants as facts
-use Rattle.nc_layout.specs.Slots.{padded_slab, is_fixed, record_slots, records_begin}
+use Rattle.nc_layout.specs.Slots.{padded_slab_len, is_fixed, record_slots, records_begin}
 use Rattle.nc_layout.specs.FindingIf.{finding_if}
 
 -- ---- size
@@ -62,7 +62,7 @@ after_records begin i slot =
 
 -- how many bytes of a record come before the slab of the record slot at this index
 abbrev pub bytes_before : List Slot → ℕ → ℕ
-bytes_before slots i = sum_by padded_slab (record_slots (take i slots))
+bytes_before slots i = sum_by padded_slab_len (record_slots (take i slots))
 
 -- the slab of a record slot isn't in its place, after this many bytes of the first record
 abbrev pub record_place : Option ℕ → ℕ → ℕ → Slot → Option LayoutFinding

@@ -8,8 +8,8 @@ use Rattle.nc_base.specs.declared.header.NumRecs.TheVariants.{Known, Streaming}
 use Rattle.nc_layout.specs.declared.{slot.Slot.Slot, slot.FileLayout.FileLayout}
 
 -- the bytes of a slab with the padding up to the next multiple of four
-abbrev pub padded_slab : Slot → ℕ
-padded_slab slot = slot.slab + padding_len slot.slab
+abbrev pub padded_slab_len : Slot → ℕ
+padded_slab_len slot = slot.slab + padding_len slot.slab
 
 -- it isn't a record slot
 abbrev pub is_fixed : Slot → Bool
@@ -25,7 +25,7 @@ is_sole_narrow slots = false
 
 -- the bytes that the slab of a record slot takes in a record: a sole one of narrow values isn't padded
 abbrev pub slab_in_record : List Slot → Slot → ℕ
-slab_in_record slots slot = if is_sole_narrow (record_slots slots) then slot.slab else padded_slab slot
+slab_in_record slots slot = if is_sole_narrow (record_slots slots) then slot.slab else padded_slab_len slot
 
 -- the bytes from a record to the next
 unfoldable pub record_size : List Slot → ℕ

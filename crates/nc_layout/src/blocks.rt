@@ -7,7 +7,7 @@ ghost use Rattle.nc_layout.specs.Findings.{IsSoundSlot, IsSoundLayout};
 ghost use Rattle.nc_layout.specs.code.Records.{slab_if, AreRecords};
 
 use crate::finding::Block;
-use crate::records::{FileRecords, padded_slab, slab_in_record};
+use crate::records::{FileRecords, padded_slab_len, slab_in_record};
 use crate::slot::{FileLayout, Slot};
 use std::alloc::{AllocError, Global};
 
@@ -73,7 +73,7 @@ fn slot_block(i: u64, slot: Slot) -> Extent
         var: i,
         begin: slot.begin,
         end: slot.begin as u128 + slot.slab as u128,
-        padded_end: slot.begin as u128 + padded_slab(slot) as u128,
+        padded_end: slot.begin as u128 + padded_slab_len(slot) as u128,
     }
 }
 

@@ -22,5 +22,5 @@ pub use file_end::SlabPlace;
 pub use finding::{Block, LayoutFact, LayoutFinding, LayoutPlace, Slab};
 pub use findings::layout_findings;
 pub use header_layout::sound_layout;
-pub use records::padded_slab;
+pub use records::padded_slab_len;
 pub use slot::{FileLayout, Slot};

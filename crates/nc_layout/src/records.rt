@@ -1,7 +1,7 @@
 //! The records of a file: where they begin, how large they are, and how many there are.
 
 ghost use Rattle.std.specs.Prelude.{◌≡◌, ◌≤◌, ◌<◌, ◌^◌, ◌/◌, All, Option, sum_by, if◌then◌else◌};
-ghost use Rattle.nc_layout.specs.Slots.{padded_slab, record_slots, is_sole_narrow, slab_in_record, record_size, records_begin};
+ghost use Rattle.nc_layout.specs.Slots.{padded_slab_len, record_slots, is_sole_narrow, slab_in_record, record_size, records_begin};
 ghost use Rattle.nc_layout.specs.Findings.{IsSoundSlot, IsSoundLayout};
 ghost use Rattle.nc_layout.specs.code.Records.{least_with, sole, slab_if, AreRecords};
 
@@ -51,9 +51,9 @@ pub(crate) fn file_records(layout: &FileLayout) -> FileRecords
 }
 
 /// Returns the bytes of a slab of the variable with this slot, rounded up to a multiple of four. Needs a slab below 2^63 bytes.
-pub fn padded_slab(slot: Slot) -> u64
+pub fn padded_slab_len(slot: Slot) -> u64
     requires { slot.slab < 2 ^ 63 }
-    ensures { result ≡ padded_slab slot }
+    ensures { result ≡ padded_slab_len slot }
 {
     slot.slab + padding_len(slot.slab as u128)
 }
@@ -67,7 +67,7 @@ pub(crate) fn slab_in_record(slot: Slot, sole_narrow: bool) -> u64
     if sole_narrow {
         slot.slab
     } else {
-        padded_slab(slot)
+        padded_slab_len(slot)
     }
 }
 
@@ -126,7 +126,7 @@ fn sole_record_slot(slots: &[Slot]) -> Option<Slot>
 #[tactic(auto, using(crate::proofs::SlotLists::record_size_is))]
 fn record_size(slots: &[Slot], sole_narrow: bool) -> u64
     requires sound { All IsSoundSlot slots.now }
-    requires small { sum_by padded_slab (record_slots slots.now) ≤ 2 ^ 62 }
+    requires small { sum_by padded_slab_len (record_slots slots.now) ≤ 2 ^ 62 }
     requires narrow { sole_narrow ≡ is_sole_narrow (record_slots slots.now) }
     ensures { result ≡ record_size slots.now }
 {

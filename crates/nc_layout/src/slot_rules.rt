@@ -2,7 +2,7 @@
 
 ghost use Rattle.std.specs.Prelude.{◌≡◌, ◌≤◌, ◌<◌, ◌^◌, ◌+◌, ◌++◌, Option, OnOk, is_some, slice_get, Some, sum_by};
 ghost use Rattle.std.specs.Option.{ForSome};
-ghost use Rattle.nc_layout.specs.Slots.{padded_slab, records_begin};
+ghost use Rattle.nc_layout.specs.Slots.{padded_slab_len, records_begin};
 ghost use Rattle.nc_layout.specs.Blocks.{each_slot};
 ghost use Rattle.nc_layout.specs.Findings.{IsSoundLayout, IsSoundSlot};
 ghost use Rattle.nc_layout.specs.SlotRules.{large_limit, large_variable, begin_in_header, after_records, record_place, slot_findings};
@@ -10,7 +10,7 @@ ghost use Rattle.nc_layout.specs.code.Records.{AreRecords};
 ghost use Rattle.nc_layout.specs.code.PassedSlots.{HasPassed, order_after, passed_after, next_has_successor};
 
 use crate::finding::{LayoutFact, LayoutFinding, LayoutPlace, finding_if, push_some};
-use crate::records::{FileRecords, padded_slab};
+use crate::records::{FileRecords, padded_slab_len};
 use crate::slot::{FileLayout, Slot};
 use nc_base::{Sequence, Version};
 use std::alloc::AllocError;
@@ -75,7 +75,7 @@ fn passed_after(passed: PassedSlots, i: u64, slot: Slot) -> PassedSlots
 {
     if slot.is_record {
         PassedSlots {
-            record_bytes: passed.record_bytes + padded_slab(slot),
+            record_bytes: passed.record_bytes + padded_slab_len(slot),
             records_left: passed.records_left.saturating_sub(1),
             ..passed
         }

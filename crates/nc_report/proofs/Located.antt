@@ -1,5 +1,5 @@
 -- Findings at fields that are kept as numbers.
-use Rattle.nc_report.proofs.Prelude.{IsPermutation, IsPermutation-map, IsPermutation-append, IsPermutation-refl, option_map, option_to_list, Version, append-nil, Header, FormatFault, Listing, Entry, Slot, FileLayout, LayoutFinding, padded_slab, each_slot, layout_findings, IsSoundLayout, layout_of, Fact, Finding, NumberField, NumberFields, Indexed, indexed, vsize_findings, whole_findings, is_vsize, named, vsize_finding, found_at, located, number_field, HoldsNumbers, found_at_number, located_number, vsize_fact, vsize_facts, ◌≡◌, ℕ, ◌+◌, List, [], ◌∷◌, ◌++◌, map, slice_get, Option, Some, Result, Ok, Err, OnOk, SomeIff, append_assoc, arith, refl, sym, ap, ap₂, subst, ◌∙◌}
+use Rattle.nc_report.proofs.Prelude.{IsPermutation, IsPermutation-map, IsPermutation-append, IsPermutation-refl, option_map, option_to_list, Version, append-nil, Header, FormatFault, Listing, Entry, Slot, FileLayout, LayoutFinding, padded_slab_len, each_slot, layout_findings, IsSoundLayout, layout_of, Fact, Finding, NumberField, NumberFields, Indexed, indexed, vsize_findings, whole_findings, is_vsize, named, vsize_finding, found_at, located, number_field, HoldsNumbers, found_at_number, located_number, vsize_fact, vsize_facts, ◌≡◌, ℕ, ◌+◌, List, [], ◌∷◌, ◌++◌, map, slice_get, Option, Some, Result, Ok, Err, OnOk, SomeIff, append_assoc, arith, refl, sym, ap, ap₂, subst, ◌∙◌}
 use Rattle.std.proofs.lemmas.Option.{slice_get-map}
 
 -- at a field in this place of a list
@@ -13,7 +13,7 @@ sized : (v : Version) (padded : ℕ) (o : Option Indexed) → vsize_fact v padde
 sized v padded o = grind arith
 
 sizes : (v : Version) (fs : List Indexed) (i : ℕ) (slots : List Slot)
-    → each_slot (λ i slot. option_to_list (vsize_fact v (padded_slab slot) (slice_get (map number_field fs) i))) i slots ≡ each_slot (λ i slot. option_to_list (vsize_finding v (padded_slab slot) (slice_get fs i))) i slots
+    → each_slot (λ i slot. option_to_list (vsize_fact v (padded_slab_len slot) (slice_get (map number_field fs) i))) i slots ≡ each_slot (λ i slot. option_to_list (vsize_finding v (padded_slab_len slot) (slice_get fs i))) i slots
 sizes v fs i [] = refl
 sizes v fs i (slot ∷ slots) = grind (arith, slice_get-map, sized, sizes v fs (i + 1) slots)
 

@@ -4,7 +4,7 @@ pub use Rattle.nc_fields.specs.declared.{entry.Entry.Entry, header.Listing.Listi
 pub use Rattle.nc_layout.specs.Blocks.{each_slot}
 pub use Rattle.nc_layout.specs.Findings.{IsSoundLayout, layout_findings}
 pub use Rattle.nc_layout.specs.HeaderLayout.{layout_of}
-pub use Rattle.nc_layout.specs.Slots.{padded_slab}
+pub use Rattle.nc_layout.specs.Slots.{padded_slab_len}
 pub use Rattle.nc_layout.specs.declared.{finding.LayoutFinding.LayoutFinding, slot.FileLayout.FileLayout, slot.Slot.Slot}
 pub use Rattle.nc_report.specs.Ahead.{ahead_of}
 pub use Rattle.nc_report.specs.AttributeRules.{attribute_finding, finding_by_name}

@@ -1,5 +1,6 @@
 -- Definition. Findings about an empty list and about an attribute: at one of its fields, by what lies ahead.
 use Rattle.std.specs.Prelude.{not, ◌==◌, ◌&&◌, Bool, true, false, if◌then◌else◌, List, Option, Some, None, codes}
+use Rattle.std.specs.Bool.{then_some}
 use Rattle.std.specs.Option.{option_and_then}
 use Rattle.std.specs.Str.{bytes_eq}
 use Rattle.nc_fields.specs.declared.{entry.Content.Content, place.FieldName.FieldName, place.Owner.Owner}
@@ -12,26 +13,22 @@ use Rattle.nc_report.specs.Indexed.{Indexed, finding_at, finding, each_before}
 use Rattle.nc_report.specs.Ahead.{ahead_of}
 use Rattle.nc_report.specs.NameRules.{is_first}
 
--- a finding, if the condition holds
-abbrev pub finding_if : Bool → Finding → Option Finding
-finding_if holds found = if holds then Some found else None
-
 -- ---- lists
 
 -- A list has a tag other than 0, and no elements. (The NetCDF Classic Format Specification writes such a list as `ABSENT`, with the tag 0.)
 abbrev pub empty_list : Indexed → Content → Option NumberField → Option Finding
-empty_list f (content.Number tag) (Some next) = finding_if (not (tag == 0) && (next.number == 0)) (finding f EmptyList)
+empty_list f (content.Number tag) (Some next) = then_some (not (tag == 0) && (next.number == 0)) (finding f EmptyList)
 empty_list f c next = None
 
 -- ---- values of attributes
 
 -- no values, which no CDL text gives an attribute of another type than char
 abbrev pub empty_attribute : NumberField → Option Finding
-empty_attribute count = finding_if (count.number == 0) (finding_at count.index count.offset EmptyAttribute)
+empty_attribute count = then_some (count.number == 0) (finding_at count.index count.offset EmptyAttribute)
 
 -- a NUL at the end, which CDL texts leave out
 abbrev pub trailing_nul : ValuesAt → Option Finding
-trailing_nul values = finding_if values.ends_with_nul (finding_at values.index values.offset TrailingNul)
+trailing_nul values = then_some values.ends_with_nul (finding_at values.index values.offset TrailingNul)
 
 -- at a type code of an attribute; 2 is that of char
 abbrev pub type_finding : Content → Ahead → Option Finding
@@ -43,7 +40,7 @@ type_finding c ahead = None
 
 -- not one value
 abbrev pub fill_count : NumberField → Option Finding
-fill_count count = finding_if (not (count.number == 1)) (finding_at count.index count.offset FillCount)
+fill_count count = then_some (not (count.number == 1)) (finding_at count.index count.offset FillCount)
 
 -- Not the type of the variable, or not one value. (By the NetCDF Classic Format Specification a `_FillValue` should be one value of the
 -- type of its variable.)

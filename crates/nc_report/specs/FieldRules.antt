@@ -1,5 +1,6 @@
 -- Definition. Findings at a field alone: its fault, or, if it has none, what its content shows.
 use Rattle.std.specs.Prelude.{ℕ, not, nat_lt, ◌==◌, ◌-◌, ◌^◌, ◌&&◌, ◌||◌, Bool, false, if◌then◌else◌, List, [], ◌∷◌, ◌++◌, length, map, take, flat_map, find, Option, Some, None, chars}
+use Rattle.std.specs.Bool.{then_some}
 use Rattle.std.specs.List.{list_any}
 use Rattle.std.specs.Str.{bytes_eq, is_utf8}
 use Rattle.std.specs.Option.{option_to_list, option_map}
@@ -17,10 +18,6 @@ use Rattle.nc_report.specs.declared.finding.Fact.TheVariants.{Fault, Hdf5, Gzip,
 use Rattle.nc_report.specs.Indexed.{Indexed, finding}
 
 -- ---- fields without a fault
-
--- the fact, if the condition holds
-abbrev pub fact_if : Bool → Fact → Option Fact
-fact_if holds fact = if holds then Some fact else None
 
 -- the most bytes of a name of netCDF-C (`NC_MAX_NAME`)
 abbrev pub longest_name : ℕ
@@ -44,10 +41,10 @@ is_large_numrecs size n = is_large_count size n && not (n == 2 ^ 32 - 1)
 
 -- of a number of this many bytes
 abbrev pub number_fact : FieldName → ℕ → ℕ → Option Fact
-number_fact name.NumRecs size n = fact_if (is_large_numrecs size n) LargeCount
-number_fact name.Length size n = fact_if (is_large_count size n) LargeCount
-number_fact name.NameLength size n = fact_if (nat_lt longest_name n) LongName
-number_fact name.Rank size n = fact_if (nat_lt highest_rank n) HighRank
+number_fact name.NumRecs size n = then_some (is_large_numrecs size n) LargeCount
+number_fact name.Length size n = then_some (is_large_count size n) LargeCount
+number_fact name.NameLength size n = then_some (nat_lt longest_name n) LongName
+number_fact name.Rank size n = then_some (nat_lt highest_rank n) HighRank
 number_fact place size n = None
 
 -- a byte isn't 0
@@ -57,9 +54,9 @@ has_nonzero bytes = list_any (λ b. not (b == 0)) bytes
 -- Of bytes. A name is one that the NetCDF Classic Format Specification allows (`name`), and what fills a name or an attribute up is zeros
 -- (`padding`).
 abbrev pub bytes_fact : FieldName → Bytes → Option Fact
-bytes_fact name.Name bytes = fact_if (not (is_name bytes)) NameCharacters
-bytes_fact name.NamePadding bytes = fact_if (has_nonzero bytes) Padding
-bytes_fact name.Padding bytes = fact_if (has_nonzero bytes) Padding
+bytes_fact name.Name bytes = then_some (not (is_name bytes)) NameCharacters
+bytes_fact name.NamePadding bytes = then_some (has_nonzero bytes) Padding
+bytes_fact name.Padding bytes = then_some (has_nonzero bytes) Padding
 bytes_fact place bytes = None
 
 -- the bytes are the UTF-8 of a text that isn't in normal form NFC
@@ -68,7 +65,7 @@ is_not_nfc bytes = is_utf8 bytes && not (is_nfc (chars bytes))
 
 -- of the characters of a name. (The NetCDF Classic Format Specification wants names in normal form NFC.)
 abbrev pub form_fact : FieldName → Bytes → Option Fact
-form_fact name.Name bytes = fact_if (is_not_nfc bytes) NotNfc
+form_fact name.Name bytes = then_some (is_not_nfc bytes) NotNfc
 form_fact place bytes = None
 
 -- what is odd in a content of this many bytes, as the field of this name

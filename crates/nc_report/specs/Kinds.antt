@@ -61,47 +61,26 @@ kind_of (fact.Layout fact) = kind_of_layout fact
 
 -- ---- of kinds
 
--- An error: values can't be had, or can't be trusted. The header can't be read on, values aren't in the file, or netCDF-C refuses to open
--- it. A violation breaks a rule of the format or a limit of netCDF-C, but each value can be had. A note is legal or without any
--- effect, but odd.
+-- A note is legal or without any effect, but odd. A violation breaks a rule of the format or a limit of netCDF-C, but each value can be
+-- had. All others are errors: values can't be had, or can't be trusted. The header can't be read on, values aren't in the file, or netCDF-C
+-- refuses to open it.
 abbrev pub severity_of : Kind → Severity
-severity_of NotNetcdf = Error
-severity_of Hdf5 = Error
-severity_of Gzip = Error
-severity_of EmptyFile = Error
-severity_of UnknownVersion = Error
-severity_of HeaderTruncated = Error
-severity_of BadTag = Error
-severity_of BadCount = Error
-severity_of BadName = Error
-severity_of NameCharacters = Violation
 severity_of FloatingType = Note
-severity_of BadType = Error
-severity_of BadShape = Error
-severity_of TwoRecordDims = Error
-severity_of TooLarge = Error
-severity_of BadOffset = Error
-severity_of LargeCount = Violation
 severity_of Streaming = Note
 severity_of UnusedRecords = Note
 severity_of EmptyList = Note
+severity_of EmptyAttribute = Note
+severity_of TrailingNul = Note
+severity_of Vsize = Note
+severity_of Gap = Note
+severity_of EndPadding = Note
+severity_of NameCharacters = Violation
+severity_of LargeCount = Violation
 severity_of LongName = Violation
 severity_of DuplicateName = Violation
 severity_of NotNfc = Violation
 severity_of Padding = Violation
-severity_of EmptyAttribute = Note
-severity_of TrailingNul = Note
 severity_of FillValue = Violation
 severity_of HighRank = Violation
-severity_of Vsize = Note
-severity_of LargeVariable = Error
-severity_of BeginInHeader = Error
-severity_of Overlap = Error
-severity_of Unpadded = Error
-severity_of Order = Error
-severity_of AfterRecords = Error
-severity_of RecordPlace = Error
-severity_of Gap = Note
-severity_of Missing = Error
-severity_of EndPadding = Note
 severity_of Trailing = Violation
+severity_of kind = Error

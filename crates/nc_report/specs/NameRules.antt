@@ -1,9 +1,10 @@
 -- Definition. Names that two elements of a list have: two dimensions, two variables, two global attributes, or two attributes of one
 -- variable. (By the NetCDF Classic Format Specification the names of a list differ.)
-use Rattle.std.specs.Prelude.{ℕ, ◌==◌, ◌&&◌, Bool, true, false, if◌then◌else◌, List, [], find, Option, Some, None, is_none}
+use Rattle.std.specs.Prelude.{ℕ, ◌==◌, ◌&&◌, Bool, true, false, if◌then◌else◌, List, [], find, Option, Some, None}
 use Rattle.std.specs.Option.{option_and_then, option_map, option_map_or}
 use Rattle.std.specs.Str.{bytes_eq}
 use Rattle.nc_base.specs.Bytes.{Bytes}
+use Rattle.nc_base.specs.declared.fault.FormatFault.{FormatFault}
 use Rattle.nc_fields.specs.declared.{entry.Content.Content, entry.Entry.Entry, place.FieldName.FieldName, place.Owner.Owner}
 use Rattle.nc_fields.specs.declared.entry.Content.TheVariants as content
 use Rattle.nc_fields.specs.declared.place.FieldName.TheVariants as name
@@ -35,17 +36,13 @@ NameKey = NameScope × Bytes
 abbrev pub is_same_key : NameKey → NameKey → Bool
 is_same_key a b = is_same_list a.0 b.0 && bytes_eq a.1 b.1
 
-abbrev pub is_name_name : FieldName → Bool
-is_name_name name.Name = true
-is_name_name place = false
-
-abbrev pub key_in : Content → Owner → Option NameKey
-key_in (content.Bytes bytes) o = option_map (λ list. (list, bytes)) (list_of o)
-key_in c o = None
+abbrev pub key_in : FieldName → Option FormatFault → Content → Owner → Option NameKey
+key_in name.Name None (content.Bytes bytes) o = option_map (λ list. (list, bytes)) (list_of o)
+key_in field fault c o = None
 
 -- the name that a field without a fault is, if it is one
 abbrev pub key_of : Entry → Option NameKey
-key_of entry = if is_name_name entry.place.name && is_none entry.fault then key_in entry.content entry.place.owner else None
+key_of entry = key_in entry.place.name entry.fault entry.content entry.place.owner
 
 -- the field is this name
 abbrev pub has_key : NameKey → Indexed → Bool

@@ -8,7 +8,7 @@ use Rattle.nc_fields.specs.declared.place.FieldName.TheVariants as name
 use Rattle.nc_fields.specs.Entries.{number_of}
 use Rattle.nc_layout.specs.declared.{slot.FileLayout.FileLayout, finding.LayoutFinding.LayoutFinding}
 use Rattle.nc_layout.specs.declared.finding.LayoutPlace.TheVariants as places
-use Rattle.nc_layout.specs.Slots.{padded_slab}
+use Rattle.nc_layout.specs.Slots.{padded_slab_len}
 use Rattle.nc_layout.specs.Blocks.{each_slot}
 use Rattle.nc_layout.specs.Findings.{layout_findings}
 use Rattle.nc_layout.specs.HeaderLayout.{layout_of}
@@ -43,7 +43,7 @@ vsize_finding v padded (Some f) =
     let expected = vsize_of v padded in if number_of f.entry.content == expected then None else Some (finding f (fact.Vsize expected))
 
 unfoldable pub vsize_findings : FileLayout → List Indexed → List Finding
-vsize_findings layout fields = each_slot (λ i slot. option_to_list (vsize_finding layout.version (padded_slab slot) (slice_get (named is_vsize fields) i))) 0 layout.slots
+vsize_findings layout fields = each_slot (λ i slot. option_to_list (vsize_finding layout.version (padded_slab_len slot) (slice_get (named is_vsize fields) i))) 0 layout.slots
 
 -- ---- the layout
 

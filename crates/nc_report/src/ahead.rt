@@ -2,7 +2,7 @@
 
 ghost use Rattle.std.specs.Prelude.{◌≡◌, [], None};
 ghost use Rattle.nc_report.specs.Indexed.{field_at};
-ghost use Rattle.nc_report.specs.Ahead.{ahead_of, is_bad_type, is_type_name, is_var, var_type_at, number_at, values_at};
+ghost use Rattle.nc_report.specs.Ahead.{ahead_of, var_type_at, number_at, values_at};
 ghost use Rattle.nc_report.specs.code.Passes.{ahead_with};
 
 use nc_base::FormatFault;
@@ -70,7 +70,7 @@ impl Ahead {
         match entry.place.name {
             FieldName::Type => {
                 self.type_code = number;
-                if is_var(entry.place.owner) {
+                if matches!(entry.place.owner, Owner::Var(_)) {
                     self.var_type = var_type_at(i, entry);
                 }
             }
@@ -100,18 +100,10 @@ fn number_at(i: u64, entry: &Entry) -> Option<NumberField>
 fn var_type_at(i: u64, entry: &Entry) -> Option<NumberField>
     ensures { result ≡ var_type_at (field_at i entry.now) }
 {
-    if is_bad_type(entry.fault) {
-        None
-    } else {
-        number_at(i, entry)
+    match entry.fault {
+        Some(FormatFault::BadType) => None,
+        _ => number_at(i, entry),
     }
-}
-
-/// Returns true if the fault of a field is that the version has no type with its code. `None` is no fault.
-fn is_bad_type(fault: Option<FormatFault>) -> bool
-    ensures { result ≡ is_bad_type fault }
-{
-    matches!(fault, Some(FormatFault::BadType))
 }
 
 /// Returns `entry`, the header's field at the index `i`, if it is the values of an attribute, or `None`, also if the file ends inside them.
@@ -126,18 +118,4 @@ fn values_at(i: u64, entry: &Entry) -> Option<ValuesAt>
         }),
         _ => None,
     }
-}
-
-/// Returns true for `FieldName::Type`: such a field is the type code of an attribute or a variable.
-pub(crate) fn is_type(name: FieldName) -> bool
-    ensures { result ≡ is_type_name name }
-{
-    matches!(name, FieldName::Type)
-}
-
-/// Returns true for `Owner::Var`: the field belongs to a variable, and not to one of its attributes.
-fn is_var(owner: Owner) -> bool
-    ensures { result ≡ is_var owner }
-{
-    matches!(owner, Owner::Var(_))
 }

@@ -3,7 +3,7 @@
 ghost use Rattle.std.specs.Prelude.{◌≡◌, ◌++◌, OnOk};
 ghost use Rattle.std.specs.Option.{option_and_then, option_to_list};
 ghost use Rattle.nc_report.specs.Indexed.{field_at, indexed};
-ghost use Rattle.nc_report.specs.AttributeRules.{attribute_findings, empty_attribute, empty_list, fill_count, fill_finding, finding_by_name, finding_if, is_attribute, is_fill_name, is_var_attribute, name_finding, trailing_nul, type_finding};
+ghost use Rattle.nc_report.specs.AttributeRules.{attribute_findings, empty_attribute, empty_list, fill_count, fill_finding, finding_by_name, is_attribute, is_fill_name, is_var_attribute, name_finding, trailing_nul, type_finding};
 ghost use Rattle.nc_report.specs.code.FirstNames.{HasFirst, is_first_of};
 ghost use Rattle.nc_report.specs.code.Passes.{Appended};
 
@@ -88,10 +88,7 @@ fn empty_list(i: u64, entry: &Entry, next: Option<NumberField>) -> Option<Findin
         return None;
     };
     let count = next?;
-    finding_if(
-        tag != 0 && count.number == 0,
-        finding_at(i, entry.offset, Fact::EmptyList),
-    )
+    (tag != 0 && count.number == 0).then_some(finding_at(i, entry.offset, Fact::EmptyList))
 }
 
 /// Returns the finding about the values of an attribute with this type code: that they end with a NUL if it is `char`, or that there are
@@ -110,20 +107,16 @@ fn type_finding(code: &Content, ahead: &Ahead) -> Option<Finding>
 fn empty_attribute(count: NumberField) -> Option<Finding>
     ensures { result ≡ empty_attribute count }
 {
-    finding_if(
-        count.number == 0,
-        finding_at(count.index, count.offset, Fact::EmptyAttribute),
-    )
+    (count.number == 0).then_some(finding_at(count.index, count.offset, Fact::EmptyAttribute))
 }
 
 /// Returns the finding that the values of an attribute end with a NUL, at the field of the values, or `None` if they don't.
 fn trailing_nul(values: ValuesAt) -> Option<Finding>
     ensures { result ≡ trailing_nul values }
 {
-    finding_if(
-        values.ends_with_nul,
-        finding_at(values.index, values.offset, Fact::TrailingNul),
-    )
+    values
+        .ends_with_nul
+        .then_some(finding_at(values.index, values.offset, Fact::TrailingNul))
 }
 
 /// Returns the finding that an attribute is the first `_FillValue` of its variable (by `names`), but not one value of the variable's type,
@@ -173,15 +166,5 @@ fn fill_finding(ahead: &Ahead) -> Option<Finding>
 fn fill_count(count: NumberField) -> Option<Finding>
     ensures { result ≡ fill_count count }
 {
-    finding_if(
-        count.number != 1,
-        finding_at(count.index, count.offset, Fact::FillCount),
-    )
-}
-
-/// Returns the finding if `holds` is true, or `None`.
-fn finding_if(holds: bool, finding: Finding) -> Option<Finding>
-    ensures { result ≡ finding_if holds finding }
-{
-    if holds { Some(finding) } else { None }
+    (count.number != 1).then_some(finding_at(count.index, count.offset, Fact::FillCount))
 }

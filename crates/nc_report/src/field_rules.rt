@@ -3,9 +3,8 @@
 ghost use Rattle.std.specs.Prelude.{◌≡◌, ◌++◌, OnOk, IfOk, map};
 ghost use Rattle.std.specs.Option.{option_to_list};
 ghost use Rattle.nc_report.specs.Indexed.{field_at, finding, finding_at, indexed};
-ghost use Rattle.nc_report.specs.FieldRules.{bytes_fact, content_facts, fault_fact, field_findings, findings_at, floating_finding, floating_findings, fact_if, form_fact, has_nonzero, is_floating_in, is_large_count, is_not_nfc, magic_fact, number_fact};
+ghost use Rattle.nc_report.specs.FieldRules.{bytes_fact, content_facts, fault_fact, field_findings, findings_at, floating_finding, floating_findings, form_fact, has_nonzero, is_floating_in, is_large_count, is_not_nfc, magic_fact, number_fact};
 
-use crate::ahead::is_type;
 use crate::finding::{Fact, Finding, finding_at, push_some};
 use nc_base::{FormatFault, Sequence, is_valid_name};
 use nc_fields::{Content, Entry, FieldName, HDF5_SIGNATURE};
@@ -138,10 +137,12 @@ fn number_fact(name: FieldName, size: u128, n: u64) -> Option<Fact>
     ensures { result ≡ number_fact name size n }
 {
     match name {
-        FieldName::NumRecs => fact_if(is_large_count(size, n) && n != STREAMING, Fact::LargeCount),
-        FieldName::Length => fact_if(is_large_count(size, n), Fact::LargeCount),
-        FieldName::NameLength => fact_if(n > LONGEST_NAME, Fact::LongName),
-        FieldName::Rank => fact_if(n > HIGHEST_RANK, Fact::HighRank),
+        FieldName::NumRecs => (is_large_count(size, n) && n != STREAMING).then_some(
+            Fact::LargeCount,
+        ),
+        FieldName::Length => is_large_count(size, n).then_some(Fact::LargeCount),
+        FieldName::NameLength => (n > LONGEST_NAME).then_some(Fact::LongName),
+        FieldName::Rank => (n > HIGHEST_RANK).then_some(Fact::HighRank),
         _ => None,
     }
 }
@@ -159,9 +160,9 @@ fn bytes_fact(name: FieldName, bytes: &[u8]) -> Option<Fact>
     ensures { result ≡ bytes_fact name bytes.now }
 {
     match name {
-        FieldName::Name => fact_if(!is_valid_name(bytes), Fact::NameCharacters),
+        FieldName::Name => (!is_valid_name(bytes)).then_some(Fact::NameCharacters),
         FieldName::NamePadding | FieldName::Padding => {
-            fact_if(has_nonzero(bytes), Fact::Padding)
+            has_nonzero(bytes).then_some(Fact::Padding)
         }
         _ => None,
     }
@@ -173,16 +174,9 @@ fn form_fact(alloc: Global, name: FieldName, bytes: &[u8]) -> Result<Option<Fact
     ensures { IfOk result (λ fact. fact ≡ form_fact name bytes.now) }
 {
     match name {
-        FieldName::Name => Ok(fact_if(is_not_nfc(alloc, bytes)?, Fact::NotNfc)),
+        FieldName::Name => Ok(is_not_nfc(alloc, bytes)?.then_some(Fact::NotNfc)),
         _ => Ok(None),
     }
-}
-
-/// Returns the fact if `holds` is true, or `None`.
-fn fact_if(holds: bool, fact: Fact) -> Option<Fact>
-    ensures { result ≡ fact_if holds fact }
-{
-    if holds { Some(fact) } else { None }
 }
 
 /// Returns true if one of the bytes isn't 0.
@@ -231,7 +225,8 @@ fn is_floating(entry: &Entry) -> bool
     ensures { result ≡ is_floating_in entry.now.place.name entry.now.content }
 {
     match entry.content {
-        Content::Number(code) => is_type(entry.place.name) && (code == 5 || code == 6),
+        Content::Number(code) => matches!(entry.place.name, FieldName::Type)
+            && (code == 5 || code == 6),
         _ => false,
     }
 }

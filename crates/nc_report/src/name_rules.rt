@@ -3,7 +3,7 @@
 ghost use Rattle.std.specs.Prelude.{◌≡◌, ◌∷◌, ◌++◌, [], List, IfOk, OnOk};
 ghost use Rattle.std.specs.Option.{option_map};
 ghost use Rattle.nc_report.specs.Indexed.{Indexed, field_at, indexed};
-ghost use Rattle.nc_report.specs.NameRules.{duplicate_name, is_name_name, key_of, name_findings};
+ghost use Rattle.nc_report.specs.NameRules.{duplicate_name, key_of, name_findings};
 ghost use Rattle.nc_report.specs.code.FirstNames.{HasFirst, is_first_of};
 
 use crate::finding::{Fact, Finding, finding_at, push_some};
@@ -66,7 +66,7 @@ pub(crate) fn is_first<'a>(names: &FirstNames<'a>, i: u64, entry: &'a Entry) -> 
 fn key_of(entry: &Entry) -> Option<(NameScope, &[u8])>
     ensures { option_map (λ key. (key.0, key.1.now)) result ≡ key_of entry.now }
 {
-    if !is_name(entry.place.name) || entry.fault.is_some() {
+    if !matches!(entry.place.name, FieldName::Name) || entry.fault.is_some() {
         return None;
     }
     let Content::Bytes(name) = &entry.content else {
@@ -74,11 +74,4 @@ fn key_of(entry: &Entry) -> Option<(NameScope, &[u8])>
     };
     let list = list_of(entry.place.owner)?;
     Some((list, name.as_slice()))
-}
-
-/// Returns true for `FieldName::Name`: such a field is the name of a dimension, an attribute or a variable.
-fn is_name(name: FieldName) -> bool
-    ensures { result ≡ is_name_name name }
-{
-    matches!(name, FieldName::Name)
 }

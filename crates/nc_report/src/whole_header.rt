@@ -11,7 +11,7 @@ use crate::number_fields::{NumberFields, number_fields};
 use nc_base::{Sequence, Version};
 use nc_fields::Listing;
 use nc_layout::{
-    FileLayout, LayoutFinding, LayoutPlace, layout_findings, padded_slab, sound_layout,
+    FileLayout, LayoutFinding, LayoutPlace, layout_findings, padded_slab_len, sound_layout,
 };
 use std::alloc::{AllocError, Global};
 
@@ -51,7 +51,7 @@ fn push_vsize_findings(
         let vsize = field_at(vsizes, i as u64);
         push_some(
             found,
-            vsize_finding(layout.version, padded_slab(*slot), vsize),
+            vsize_finding(layout.version, padded_slab_len(*slot), vsize),
         )?;
     }
     Ok(())

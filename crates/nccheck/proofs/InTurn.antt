@@ -1,5 +1,5 @@
 -- A run over one item after another.
-use Rattle.nccheck.proofs.Prelude.{Bytes, Asked, Item, ChecksItem, Either, ends_run, has_ended, IsTold, Openings, RunsOver, State, Answer, Counts, IsCount, Tally, ◌≡◌, inl, inr, true, false, Bool, List, [], ◌∷◌, ◌++◌, refl, ap, Option, Some, None, Result, Ok, Err, arith}
+use Rattle.nccheck.proofs.Prelude.{Bytes, Asked, Item, ChecksItem, MatchBool, ends_run, has_ended, IsTold, Openings, RunsOver, State, Answer, Counts, IsCount, Tally, ◌≡◌, inl, inr, true, false, Bool, List, [], ◌∷◌, ◌++◌, refl, ap, Option, Some, None, Result, Ok, Err, arith}
 use Rattle.std.proofs.lemmas.List.Folds.{list_any-append}
 use Rattle.std.proofs.lemmas.List.Sums.{fold-append}
 use Rattle.devices.specs.Sinks.{SinkView}
@@ -12,12 +12,12 @@ is_told old new text (Err failure) written = inr written
 
 -- ---- either of two
 
-pub either : {First Second : Type 0} (b : Bool) → (b ≡ true → First) → (b ≡ false → Second) → Either b First Second
+pub either : {First Second : Type 0} (b : Bool) → (b ≡ true → First) → (b ≡ false → Second) → MatchBool b First Second
 either true first second = first refl
 either false first second = second refl
 
 either_map : {First Second First' Second' : Type 0} (b : Bool) → (b ≡ true → First → First') → (b ≡ false → Second → Second')
-    → Either b First Second → Either b First' Second'
+    → MatchBool b First Second → MatchBool b First' Second'
 either_map true f g x = f refl x
 either_map false f g x = g refl x
 

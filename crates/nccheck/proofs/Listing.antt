@@ -1,5 +1,5 @@
 -- A run over a list whose bytes come part by part.
-use Rattle.nccheck.proofs.Prelude.{length-append, length-take-le, Bytes, HasFailed, ReaderView, Asked, Broken, Item, items_after, items_in, last_items, ListEnd, Path, Unread, Whole, Either, Fails, has_ended, Openings, ReadsList, ReadsNothing, RunsFiles, State, Writes, counted, no_files, status_of, summary_line, Counts, CountsAll, CountsList, Gives, Takes, TakesItems, Tally, ◌≡◌, ℕ, ◌+◌, ◌<◌, ◌≤◌, ◌^◌, List, [], ◌∷◌, ◌++◌, ◌⊎◌, codes, inl, inr, refl, sym, ap, ◌∙◌, append_assoc, append-nil, length, take, ◌&&◌, not, map, Bool, true, false, Option, Some, None, IfSome, Err, arith, unwrap_or}
+use Rattle.nccheck.proofs.Prelude.{length-append, length-take-le, Bytes, HasFailed, ReaderView, Asked, Broken, Item, items_after, items_in, last_items, ListEnd, Path, Unread, Whole, MatchBool, Fails, has_ended, Openings, ReadsList, ReadsNothing, RunsFiles, State, Writes, counted, no_files, status_of, summary_line, Counts, CountsAll, CountsList, Gives, Takes, TakesItems, Tally, ◌≡◌, ℕ, ◌+◌, ◌<◌, ◌≤◌, ◌^◌, List, [], ◌∷◌, ◌++◌, ◌⊎◌, codes, inl, inr, refl, sym, ap, ◌∙◌, append_assoc, append-nil, length, take, ◌&&◌, not, map, Bool, true, false, Option, Some, None, IfSome, Err, arith, unwrap_or}
 use Rattle.std.specs.Io.KnownBytes.{Consumes}
 use Rattle.std.proofs.KnownBytes.{Consumes-all, Consumes-kept, Consumes-nil, Consumes-trans}
 use Rattle.devices.specs.Uses.{Use}
@@ -36,7 +36,7 @@ gives_path begun None = record { others = λ end more. items_after end [] more; 
 
 -- a list of which nothing was read
 untouched : (reads_paths_from_input : Bool) (input : ReaderView)
-    → (items : List Item) × Either reads_paths_from_input (ReadsList input input items) (ReadsNothing input input items)
+    → (items : List Item) × MatchBool reads_paths_from_input (ReadsList input input items) (ReadsNothing input input items)
 untouched true input =
     let all = unwrap_or input.remaining [] in
     let read = with_rest input.remaining input.remaining [] (Consumes-nil input.remaining) in

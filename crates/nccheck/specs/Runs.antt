@@ -1,6 +1,6 @@
 -- Definition. What a run of the program has done.
 use Rattle.std.specs.Prelude.{ℕ, ◌≡◌, ◌+◌, ◌^◌, ◌≤◌, ◌⊎◌, ◌&&◌, not, Bool, true, false, if◌then◌else◌, List, [], ◌∷◌, ◌++◌, codes, length, map}
-use Rattle.std.specs.Prelude.{Option, Some, None, IfSome, IsSomeAnd, MatchOption, Result, Ok, Err}
+use Rattle.std.specs.Prelude.{Option, Some, None, IfSome, IsSomeAnd, MatchBool, MatchOption, Result, Ok, Err}
 use Rattle.std.specs.Bool.{OnTrue}
 use Rattle.std.specs.Io.KnownBytes.{Consumes}
 use Rattle.std.specs.List.{list_any}
@@ -55,11 +55,7 @@ ChecksBytes a bytes file old new (Err OutOfMemory) = new ≡ old
 
 -- there is no such file, and nothing was written
 abbrev pub Unopened : SinkView → SinkView → Answer → Type 0
-Unopened old new (Ok reported) = ⊥
-Unopened old new (Err (CannotOpen why)) = (why ≡ NotFound) × (new ≡ old)
-Unopened old new (Err ReadFailed) = ⊥
-Unopened old new (Err OutOfMemory) = ⊥
-Unopened old new (Err WriteFailed) = ⊥
+Unopened old new answer = (answer ≡ Err (CannotOpen NotFound)) × (new ≡ old)
 
 -- what was written of a path that names these bytes, or none
 abbrev pub ChecksNamed : Asked → Option Bytes → Bytes → SinkView → SinkView → Answer → Type 0
@@ -83,11 +79,6 @@ pub record OpensFile {A : Type 0} (old new : OpenerView) (answer : Result A File
   pub reads : ReadFailsOnly old.failures new.failures answer
 
 -- ---- one path of a run
-
--- of the two, the first exactly on true
-abbrev pub Either : Bool → Type 0 → Type 0 → Type 0
-Either true First Second = First
-Either false First Second = Second
 
 -- how a run sees what opens paths; the bytes that a path names, if any, are known where what is opened is transparent
 pub record Openings (P : Type 0) : Type 0 where
@@ -133,18 +124,16 @@ pub record Fails {P : Type 0} (file : Bytes) (fault : FileFault) (old new : Stat
 
 -- what came of a path, or of a list that can't be read on
 abbrev pub ChecksItem : {P : Type 0} → Openings P → Asked → Item → State P → State P → Answer → Type 0
-ChecksItem o a (Path file) old new answer = Either (is_path file) (ChecksPath o a file old new answer) (Fails file (CannotOpen Other) old new answer)
+ChecksItem o a (Path file) old new answer = MatchBool (is_path file) (ChecksPath o a file old new answer) (Fails file (CannotOpen Other) old new answer)
 ChecksItem o a Unread old new answer = Fails (codes "-") ReadFailed old new answer
 
 -- ---- the items of a run, in turn
 
 -- a failed allocation and a failed standard output end the run
 abbrev pub ends_run : Answer → Bool
-ends_run (Ok reported) = false
-ends_run (Err (CannotOpen why)) = false
-ends_run (Err ReadFailed) = false
 ends_run (Err OutOfMemory) = true
 ends_run (Err WriteFailed) = true
+ends_run answer = false
 
 -- nothing was checked
 pub record ChecksNone {P : Type 0} (old new : State P) (answers : List Answer) : Type 0 where
@@ -158,7 +147,7 @@ pub record ChecksFirst {P : Type 0} (o : Openings P) (a : Asked) (item : Item) (
   pub answer : Answer
   pub others : List Answer
   pub first : ChecksItem o a item old mid answer
-  pub goes_on : Either (ends_run answer) (ChecksNone mid new others) (Others mid new others)
+  pub goes_on : MatchBool (ends_run answer) (ChecksNone mid new others) (Others mid new others)
   pub all : answers ≡ answer ∷ others
 
 -- the items were checked in turn, with these answers, up to one whose fault ends the run
@@ -206,12 +195,12 @@ pub record ReadsNothing (old new : ReaderView) (items : List Item) : Type 0 wher
 -- there was none, and it is asked for, a line says what came of them, or a prefix of it if standard output fails
 pub record RunsFiles {P : Type 0} (o : Openings P) (a : Asked) (input : Use ReaderView) (old new : State P) (status : ℕ) : Type 0 where
   pub listed : List Item
-  pub reads : Either a.reads_paths_from_input (ReadsList input.before input.after listed) (ReadsNothing input.before input.after listed)
+  pub reads : MatchBool a.reads_paths_from_input (ReadsList input.before input.after listed) (ReadsNothing input.before input.after listed)
   pub answers : List Answer
   pub mid : State P
   pub runs : RunsOver o a (map Path a.files ++ listed) old mid answers
   pub opener : new.opener ≡ mid.opener
-  pub ends : Either (a.has_summary && not (has_ended answers))
+  pub ends : MatchBool (a.has_summary && not (has_ended answers))
       (Writes (summary_line (tally_of answers)) mid new (status_of (tally_of answers)) status)
       (WritesNothing mid new (status_of (tally_of answers)) status)
 

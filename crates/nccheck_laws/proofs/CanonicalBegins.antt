@@ -1,5 +1,5 @@
 -- If nothing is found at the begins, each slot begins where a generated file has it.
-use Rattle.nccheck_laws.proofs.Prelude.{Contains, cases_lt, nat_tests, slice_get_within, Slot, FileLayout, Extent, padded_slab, is_fixed, records_begin, record_count, slot_block, records_block, blocks, before, precedes, greatest_begin, bytes_before, slot_findings, greatest_end, block_findings, padding_end, greatest_from-above, is_of_begin, FindsNone, fixed_bytes, canonical_begin, QuietBeginsAreCanonical, ◌≡◌, ℕ, zero, suc, ◌+◌, ◌<◌, ◌≤◌, max, true, length, take, filter, arith, Some}
+use Rattle.nccheck_laws.proofs.Prelude.{Contains, cases_lt, nat_tests, slice_get_within, Slot, FileLayout, Extent, padded_slab_len, is_fixed, records_begin, record_count, slot_block, records_block, blocks, before, precedes, greatest_begin, bytes_before, slot_findings, greatest_end, block_findings, padding_end, greatest_from-above, is_of_begin, FindsNone, fixed_bytes, canonical_begin, QuietBeginsAreCanonical, ◌≡◌, ℕ, zero, suc, ◌+◌, ◌<◌, ◌≤◌, max, true, length, take, filter, arith, Some}
 use Rattle.nccheck_laws.proofs.FoundNone.{quiet-slot, quiet-block}
 use Rattle.nccheck_laws.proofs.IndexedSlots.{At, at-filtered, total-below}
 use Rattle.nccheck_laws.proofs.LayoutBlocks.{each-block, fixed-there, records-there, fixed_place, all-place, before-le, place-reached, begin-ge, first_begin, begins}
@@ -45,7 +45,7 @@ AreInPlace layout i = (k : ℕ) (x : Slot) → At layout.slots k x → k < i →
 place-le : (layout : FileLayout) (i : ℕ) → AreInPlace layout i → (k : ℕ) (y : Slot) → At layout.slots k y → k < i → is_fixed y ≡ true
     → (slot_block k y).padded_end ≤ fixed_place layout i
 place-le layout i done k y at lt is =
-    let e = done k y at lt is in let below = total-below padded_slab is_fixed layout.slots k i y at is lt in omega arith
+    let e = done k y at lt is in let below = total-below padded_slab_len is_fixed layout.slots k i y at is lt in omega arith
 
 fixed-next : (layout : FileLayout) (i : ℕ) (x : Slot) → FindsNone is_of_begin layout → At layout.slots i x → is_fixed x ≡ true
     → AreInPlace layout i → x.begin ≡ fixed_place layout i

@@ -1,6 +1,6 @@
 -- Where slots and blocks end if each slot begins in its canonical place; so a file without findings at begins and at its end has the
 -- length of a generated one.
-use Rattle.nccheck_laws.proofs.Prelude.{Contains, cases_lt, lt-ltb, nat_tests, slice_get_within, Slot, FileLayout, Extent, padded_slab, is_fixed, slab_in_record, record_size, records_begin, record_count, slot_block, records_block, blocks, has_values, bytes_before, used_end, end_findings, IsSoundSlot, IsSoundLayout, is_record_slot, contains-filter, greatest_from-ge, greatest_from-above, greatest_from-least, fixed_bytes, is_of_end, canonical_begin, HasCanonicalBegins, canonical_len, QuietLengthIsCanonical, ◌≡◌, ℕ, zero, suc, ◌+◌, ◌-◌, ◌*◌, ◌<◌, ◌≤◌, true, length, filter, subst, arith, Option, Some, IfSome, max, refl, common_steps}
+use Rattle.nccheck_laws.proofs.Prelude.{Contains, cases_lt, lt-ltb, nat_tests, slice_get_within, Slot, FileLayout, Extent, padded_slab_len, is_fixed, slab_in_record, record_size, records_begin, record_count, slot_block, records_block, blocks, has_values, bytes_before, used_end, end_findings, IsSoundSlot, IsSoundLayout, is_record_slot, contains-filter, greatest_from-ge, greatest_from-above, greatest_from-least, fixed_bytes, is_of_end, canonical_begin, HasCanonicalBegins, canonical_len, QuietLengthIsCanonical, ◌≡◌, ℕ, zero, suc, ◌+◌, ◌-◌, ◌*◌, ◌<◌, ◌≤◌, true, length, filter, subst, arith, Option, Some, IfSome, max, refl, common_steps}
 use Rattle.nc_layout.specs.FileEnd.{padding_end}
 use Rattle.nccheck_laws.proofs.IndexedSlots.{At, all-at, total-below, total-whole, total-reach, slab-fits, part-le}
 use Rattle.nccheck_laws.proofs.LayoutBlocks.{each-block, fixed-there, records-there, fixed_place, all-place, records_end-above, records_end-le, first_begin, begins, begin-is}
@@ -28,13 +28,13 @@ records-place layout begin h found =
 
 -- a slot that isn't a record slot ends before the next one begins
 pub fixed-ends : (layout : FileLayout) (k i : ℕ) (x : Slot) → HasCanonicalBegins layout → At layout.slots k x → is_fixed x ≡ true → k < i
-    → x.begin + padded_slab x ≤ fixed_place layout i
+    → x.begin + padded_slab_len x ≤ fixed_place layout i
 fixed-ends layout k i x h at is lt =
-    let e = fixed-place layout k x h at is in let below = total-below padded_slab is_fixed layout.slots k i x at is lt in omega arith
+    let e = fixed-place layout k x h at is in let below = total-below padded_slab_len is_fixed layout.slots k i x at is lt in omega arith
 
 -- and all of them before the records begin
 pub fixed-ends-all : (layout : FileLayout) (k : ℕ) (x : Slot) → HasCanonicalBegins layout → At layout.slots k x → is_fixed x ≡ true
-    → x.begin + padded_slab x ≤ layout.header_end + fixed_bytes layout.slots
+    → x.begin + padded_slab_len x ≤ layout.header_end + fixed_bytes layout.slots
 fixed-ends-all layout k x h at is =
     let le = fixed-ends layout k (length layout.slots) x h at is (slice_get_within layout.slots k x at) in
     let all = all-place layout in omega arith
@@ -66,7 +66,7 @@ reached layout b has some =
 fixed-reached : (layout : FileLayout) → IsSoundLayout layout → HasCanonicalBegins layout
     → layout.header_end + fixed_bytes layout.slots ≤ padding_end layout
 fixed-reached layout sound h =
-    let reach = total-reach padded_slab is_fixed layout.slots layout.header_end (padding_end layout) (length layout.slots) (λ k x at lt is.
+    let reach = total-reach padded_slab_len is_fixed layout.slots layout.header_end (padding_end layout) (length layout.slots) (λ k x at lt is.
     let e = fixed-place layout k x h at is in
     let some = (all-at IsSoundSlot layout.slots k x sound.sound_slots at).some_bytes in
     let le = reached layout (slot_block k x) (fixed-there layout k x at is) (omega arith) in omega arith) in

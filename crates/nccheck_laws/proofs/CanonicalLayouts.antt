@@ -1,6 +1,6 @@
 -- Where each slot begins in its canonical place, nothing is found at the begins; nor at the end of a file of the canonical length. So nothing
 -- is found in the layout of a generated file.
-use Rattle.nccheck_laws.proofs.Prelude.{Contains, cases_lt, nat_tests, Slot, FileLayout, Extent, padded_slab, is_fixed, slab_in_record, record_count, slot_block, records_block, blocks, before, precedes, has_values, slot_findings, block_findings, greatest_end, used_end, end_findings, IsSoundSlot, IsSoundLayout, is_of_begin, is_of_end, HasCanonicalBegins, CanonicalBeginsAreQuiet, CanonicalLengthIsQuiet, value_end, filter-contains, greatest_from-ge, greatest_from-above, greatest_from-least, Header, Var, vars_with_begins, with_begins, header_spelling, slot_of, layout_of, GeneratedFilesAreQuiet, canonical_begin, ◌≡◌, ℕ, ◌+◌, ◌≤◌, max, true, length, take, filter, arith, refl, zero, suc, List, [], ◌∷◌, ◌++◌, map, slice_get, IfSome, sym, ◌∙◌, ap, append_assoc, length-append, fold, le_trans, le_refl}
+use Rattle.nccheck_laws.proofs.Prelude.{Contains, cases_lt, nat_tests, Slot, FileLayout, Extent, padded_slab_len, is_fixed, slab_in_record, record_count, slot_block, records_block, blocks, before, precedes, has_values, slot_findings, block_findings, greatest_end, used_end, end_findings, IsSoundSlot, IsSoundLayout, is_of_begin, is_of_end, HasCanonicalBegins, CanonicalBeginsAreQuiet, CanonicalLengthIsQuiet, value_end, filter-contains, greatest_from-ge, greatest_from-above, greatest_from-least, Header, Var, vars_with_begins, with_begins, header_spelling, slot_of, layout_of, GeneratedFilesAreQuiet, canonical_begin, ◌≡◌, ℕ, ◌+◌, ◌≤◌, max, true, length, take, filter, arith, refl, zero, suc, List, [], ◌∷◌, ◌++◌, map, slice_get, IfSome, sym, ◌∙◌, ap, append_assoc, length-append, fold, le_trans, le_refl}
 use Rattle.nc_layout.specs.code.Sweep as sweep
 use Rattle.nccheck_laws.proofs.FoundNone.{Quiet, all-quiet}
 use Rattle.nccheck_laws.proofs.IndexedSlots.{At, all-at, filtered-at, slab-le}
@@ -40,7 +40,7 @@ end-padded layout =
 -- a block ends, with its padding, before those that it precedes begin
 fixed-before-fixed : (layout : FileLayout) (k i : ℕ) (y x : Slot) → IsSoundLayout layout → HasCanonicalBegins layout
     → At layout.slots k y → At layout.slots i x → is_fixed y ≡ true → is_fixed x ≡ true
-    → precedes (slot_block k y) (slot_block i x) ≡ true → y.begin + padded_slab y ≤ x.begin
+    → precedes (slot_block k y) (slot_block i x) ≡ true → y.begin + padded_slab_len y ≤ x.begin
 fixed-before-fixed layout k i y x sound h at_y at_x fixed_y fixed_x first = grind (
   arith,
   nat_tests,

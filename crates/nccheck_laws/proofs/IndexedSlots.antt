@@ -1,5 +1,5 @@
 -- Slots at their indices, the bytes of the slots before an index, and what each slot gives.
-use Rattle.nccheck_laws.proofs.Prelude.{◌++◌, Contains, common_steps, length-take, All-contains, Contains-append_left, Contains-append_right, Contains-append_cases, sum_by-cons, sum_by-le-sum_by, slice_get_within, get_or_from_slice_get, slice_get-get_or, take-length, Slot, padded_slab, is_sole_narrow, record_slots, slab_in_record, record_size, each_slot, bytes_before, is_record_slot, contains-none, contains-filter, filter-contains, ◌≡◌, ℕ, zero, suc, ◌+◌, ◌<◌, max, ◌≤◌, Bool, true, false, List, [], ◌∷◌, length, take, filter, sum_by, refl, sym, ◌∙◌, ap, subst, arith, Some, slice_get, if◌then◌else◌, All}
+use Rattle.nccheck_laws.proofs.Prelude.{◌++◌, Contains, common_steps, length-take, All-contains, Contains-append_left, Contains-append_right, Contains-append_cases, sum_by-cons, sum_by-le-sum_by, slice_get_within, get_or_from_slice_get, slice_get-get_or, take-length, Slot, padded_slab_len, is_sole_narrow, record_slots, slab_in_record, record_size, each_slot, bytes_before, is_record_slot, contains-none, contains-filter, filter-contains, ◌≡◌, ℕ, zero, suc, ◌+◌, ◌<◌, max, ◌≤◌, Bool, true, false, List, [], ◌∷◌, length, take, filter, sum_by, refl, sym, ◌∙◌, ap, subst, arith, Some, slice_get, if◌then◌else◌, All}
 
 -- ---- elements
 
@@ -90,7 +90,7 @@ total-reach f p (y ∷ ys) b m (suc i) each =
 
 -- ---- a slab in the record
 
-pub slab-le : (slots : List Slot) (x : Slot) → (x.slab ≤ slab_in_record slots x) × (slab_in_record slots x ≤ padded_slab x)
+pub slab-le : (slots : List Slot) (x : Slot) → (x.slab ≤ slab_in_record slots x) × (slab_in_record slots x ≤ padded_slab_len x)
 slab-le slots x = grind arith
 
 sole-length : (rs : List Slot) → is_sole_narrow rs ≡ true → sum_by (λ (x : Slot). 1) rs ≡ 1
@@ -111,13 +111,13 @@ slab-fits slots k x at is = by_kind (is_sole_narrow (record_slots slots)) refl
         grind (arith, slice_get_within slots k x at, total-whole f is_record_slot slots)
 
     by_kind : (b : Bool) → is_sole_narrow (record_slots slots) ≡ b
-        → bytes_before slots k + (if b then x.slab else padded_slab x)
-        ≤ sum_by (λ (s : Slot). if b then s.slab else padded_slab s) (record_slots slots)
+        → bytes_before slots k + (if b then x.slab else padded_slab_len x)
+        ≤ sum_by (λ (s : Slot). if b then s.slab else padded_slab_len s) (record_slots slots)
     by_kind true sole =
         let count = sole-length (record_slots slots) sole in
-        grind (arith, below (λ s. 1), none-sum padded_slab (record_slots (take k slots)), below (λ s. s.slab))
-    by_kind false other = below padded_slab
+        grind (arith, below (λ s. 1), none-sum padded_slab_len (record_slots (take k slots)), below (λ s. s.slab))
+    by_kind false other = below padded_slab_len
 
 -- the sum of the slabs in a record over the slots before an index isn't greater than that of the padded slabs
 pub part-le : (slots : List Slot) (k : ℕ) → total (slab_in_record slots) is_record_slot slots k ≤ bytes_before slots k
-part-le slots k = sum_by-le-sum_by (slab_in_record slots) padded_slab (record_slots (take k slots)) (λ x. (slab-le slots x).1)
+part-le slots k = sum_by-le-sum_by (slab_in_record slots) padded_slab_len (record_slots (take k slots)) (λ x. (slab-le slots x).1)

@@ -1,5 +1,5 @@
 -- The blocks of a layout: those of slots that aren't record slots, and that of the records.
-use Rattle.nccheck_laws.proofs.Prelude.{Contains, option_map_or, cases_lt, nat_tests, Contains-append_left, Contains-append_cases, Slot, FileLayout, Extent, padded_slab, is_fixed, record_slots, record_size, records_begin, record_count, each_slot, slot_block, fixed_block, records_end, records_block, blocks, before, precedes, greatest_end, bytes_before, is_record_slot, padding_end, contains-here, contains-filter, filter-contains, greatest_from-above, greatest_from-least, fixed_bytes, ◌≡◌, ℕ, suc, ◌+◌, ◌-◌, ◌*◌, ◌<◌, ◌≤◌, max, min, true, false, List, [], ◌∷◌, length, take, fold, refl, ap, arith, Some, unwrap_or, if◌then◌else◌, common_steps}
+use Rattle.nccheck_laws.proofs.Prelude.{Contains, option_map_or, cases_lt, nat_tests, Contains-append_left, Contains-append_cases, Slot, FileLayout, Extent, padded_slab_len, is_fixed, record_slots, record_size, records_begin, record_count, each_slot, slot_block, fixed_block, records_end, records_block, blocks, before, precedes, greatest_end, bytes_before, is_record_slot, padding_end, contains-here, contains-filter, filter-contains, greatest_from-above, greatest_from-least, fixed_bytes, ◌≡◌, ℕ, suc, ◌+◌, ◌-◌, ◌*◌, ◌<◌, ◌≤◌, max, min, true, false, List, [], ◌∷◌, length, take, fold, refl, ap, arith, Some, unwrap_or, if◌then◌else◌, common_steps}
 use Rattle.nccheck_laws.proofs.IndexedSlots.{At, contains-at, at-contains, there-from, in-each, total-whole, total-reach}
 
 -- ---- each of them
@@ -33,7 +33,7 @@ abbrev pub fixed_place : FileLayout → ℕ → ℕ
 fixed_place layout i = layout.header_end + fixed_bytes (take i layout.slots)
 
 pub all-place : (layout : FileLayout) → fixed_place layout (length layout.slots) ≡ layout.header_end + fixed_bytes layout.slots
-all-place layout = ap (λ n. layout.header_end + n) (total-whole padded_slab is_fixed layout.slots)
+all-place layout = ap (λ n. layout.header_end + n) (total-whole padded_slab_len is_fixed layout.slots)
 
 pub before-le : (layout : FileLayout) (b : Extent) (m : ℕ)
     → ((c : Extent) → Contains (blocks layout) c → precedes c b ≡ true → c.padded_end ≤ m)
@@ -49,7 +49,7 @@ pub place-reached : (layout : FileLayout) (b : Extent) (i : ℕ)
     → fixed_place layout i ≤ max layout.header_end (greatest_end padding_end (before (blocks layout) b))
 place-reached layout b i each =
     let m = greatest_end padding_end (before (blocks layout) b) in
-    let reach = total-reach padded_slab is_fixed layout.slots layout.header_end m i (λ k x at lt is.
+    let reach = total-reach padded_slab_len is_fixed layout.slots layout.header_end m i (λ k x at lt is.
     let h = each k x at lt is in
     let there = contains-filter (λ c. precedes c b) (blocks layout) (slot_block k x) (fixed-there layout k x at is) h.1 in
     omega (arith, h.0, greatest_from-above padding_end 0 (before (blocks layout) b) (slot_block k x) there)) in omega arith

@@ -48,16 +48,16 @@ unfoldable pub use Rattle.nc_layout.specs.Findings.{layout_findings}
 pub use Rattle.nc_layout.specs.HeaderLayout.{layout_of, slot_of}
 pub use Rattle.nc_layout.specs.SlotRules.{bytes_before, greatest_begin}
 unfoldable pub use Rattle.nc_layout.specs.SlotRules.{slot_findings}
-pub use Rattle.nc_layout.specs.Slots.{is_fixed, is_sole_narrow, least, padded_slab, record_slots, slab_in_record}
+pub use Rattle.nc_layout.specs.Slots.{is_fixed, is_sole_narrow, least, padded_slab_len, record_slots, slab_in_record}
 unfoldable pub use Rattle.nc_layout.specs.Slots.{record_count, record_size, records_begin, records_by_length}
 pub use Rattle.nc_layout.specs.code.PassedSlots.{is_record_slot}
 pub use Rattle.nc_layout.specs.code.Sweep.{padding_end, value_end}
 pub use Rattle.nc_layout.specs.declared.{blocks.Extent.Extent, file_end.SlabPlace.SlabPlace, finding.Block.Block, finding.LayoutFact.LayoutFact, finding.LayoutFinding.LayoutFinding, finding.Slab.Slab, slot.FileLayout.FileLayout, slot.Slot.Slot}
 pub use Rattle.nc_report.proofs.OneOrder.{UpTo, pairs-head, pairs-tail, same-lists}
-pub use Rattle.nc_report.specs.Ahead.{ahead_of, is_field, next_number, number_in}
+pub use Rattle.nc_report.specs.Ahead.{ahead_of, is_field, next_number, number_at}
 pub use Rattle.nc_report.specs.AttributeRules.{attribute_finding, empty_list, finding_by_name}
 unfoldable pub use Rattle.nc_report.specs.AttributeRules.{attribute_findings}
-pub use Rattle.nc_report.specs.FieldRules.{fact_if, facts_of, facts_with, fault_fact, findings_at, floating_finding, gzip_signature, has_nonzero, is_floating_in, is_large_count}
+pub use Rattle.nc_report.specs.FieldRules.{facts_of, facts_with, fault_fact, findings_at, floating_finding, gzip_signature, has_nonzero, is_floating_in, is_large_count}
 unfoldable pub use Rattle.nc_report.specs.FieldRules.{field_findings, floating_findings}
 unfoldable pub use Rattle.nc_report.specs.HeaderRules.{header_findings}
 pub use Rattle.nc_report.specs.Indexed.{Indexed, each_after, each_before, field_at, finding, indexed, indexed_from}
@@ -98,3 +98,4 @@ pub use Rattle.std.specs.Prelude.{IsPermutation, is_some, zip}
 pub use Rattle.std.specs.Str.{bytes_eq}
 pub use Rattle.std.specs.declared.{cmp.Ordering.Ordering}
 pub use Rattle.std.specs.declared.cmp.Ordering.TheVariants.{Equal, Greater, Less}
+pub use Rattle.std.specs.Bool.{then_some}

@@ -1,5 +1,5 @@
 -- A report finds nothing about the spelling of a header exactly if it is spelled as it is written.
-use Rattle.nccheck_laws.proofs.Prelude.{nat_tests, common_steps, option_map, list_any_none, list_any-append, list_any-IsPermutation, Var, Header, Version, Bytes, SpellsHeader, Step, vsize_of, header_by, Entry, FieldName, Owner, Field, lenient, name_steps, owner_steps, whole_content, header_fields, without_values, number_of, IsWrittenVsize, Slot, layout_of, layout_findings, Finding, Indexed, indexed_from, indexed, is_vsize, named, vsize_finding, whole_findings, vsize_findings, all_findings, is_of_spelling, padded_slab, padded_size, slot_of, LayoutFinding, Listing, Report, IsReport, file_of, slice_get-map, with_begins, data_of, QuietSpellingsAreCanonical, CanonicalSpellingsAreQuiet, QuietHeadersAreCanonical, GeneratedFilesHaveQuietSpellings, ◌≡◌, ◌↔◌, ℕ, suc, ◌+◌, ◌||◌, Bool, true, false, List, [], ◌∷◌, ◌++◌, length, map, Option, Some, None, Ok, refl, sym, ap, ◌∙◌, subst, arith, slice_get, IfSome, option_to_list, if◌then◌else◌}
+use Rattle.nccheck_laws.proofs.Prelude.{nat_tests, common_steps, option_map, list_any_none, list_any-append, list_any-IsPermutation, Var, Header, Version, Bytes, SpellsHeader, Step, vsize_of, header_by, Entry, FieldName, Owner, Field, lenient, name_steps, owner_steps, whole_content, header_fields, without_values, number_of, IsWrittenVsize, Slot, layout_of, layout_findings, Finding, Indexed, indexed_from, indexed, is_vsize, named, vsize_finding, whole_findings, vsize_findings, all_findings, is_of_spelling, padded_slab_len, padded_size, slot_of, LayoutFinding, Listing, Report, IsReport, file_of, slice_get-map, with_begins, data_of, QuietSpellingsAreCanonical, CanonicalSpellingsAreQuiet, QuietHeadersAreCanonical, GeneratedFilesHaveQuietSpellings, ◌≡◌, ◌↔◌, ℕ, suc, ◌+◌, ◌||◌, Bool, true, false, List, [], ◌∷◌, ◌++◌, length, map, Option, Some, None, Ok, refl, sym, ap, ◌∙◌, subst, arith, slice_get, IfSome, option_to_list, if◌then◌else◌}
 use Rattle.nc_fields.specs.Entries.{number_of as content_number}
 use Rattle.nccheck_laws.proofs.StrictHeaders.{strict-headers}
 use Rattle.nccheck_laws.proofs.WrittenParts.{written-fields, header-canonical}
@@ -69,19 +69,19 @@ size-found v padded g = (λ quiet. grind (arith, nat_tests), λ is. grind (arith
 
 -- what is found at the size of the variable of this slot
 abbrev found_at : Version → List Indexed → ℕ → Slot → List Finding
-found_at v gs i slot = option_to_list (vsize_finding v (padded_slab slot) (slice_get gs i))
+found_at v gs i slot = option_to_list (vsize_finding v (padded_slab_len slot) (slice_get gs i))
 
 -- the variable of a slot, and the field of its size
 slot-size : (h : Header) (gs : List Indexed) (i : ℕ) (x : Slot) (o : Option Indexed) (p : Option Var) → slice_get h.vars i ≡ p
     → At (map (slot_of h.dims) h.vars) i x
-    → any_spelling (option_to_list (vsize_finding h.version (padded_slab x) o)) ≡ false
+    → any_spelling (option_to_list (vsize_finding h.version (padded_slab_len x) o)) ≡ false
     ↔ ((n : ℕ) → option_map entry_number o ≡ Some n → IsWrittenVsize h i n)
 slot-size h gs i x None p is at = (λ quiet n there. absurd cc, λ each. refl)
 slot-size h gs i x (Some g) p is at =
     let there = sym at ∙ slice_get-map (slot_of h.dims) h.vars i ∙ ap (option_map (slot_of h.dims)) is in by-var p is there
   where
     by-var : (p : Option Var) → slice_get h.vars i ≡ p → Some x ≡ option_map (slot_of h.dims) p
-        → any_spelling (option_to_list (vsize_finding h.version (padded_slab x) (Some g))) ≡ false
+        → any_spelling (option_to_list (vsize_finding h.version (padded_slab_len x) (Some g))) ≡ false
         ↔ ((n : ℕ) → Some (entry_number g) ≡ Some n → IsWrittenVsize h i n)
     by-var None is there = absurd cc
     by-var (Some var) is there =

@@ -1,5 +1,5 @@
 -- If none of the findings lets slabs share bytes, no two slabs have a byte in common.
-use Rattle.nccheck_laws.proofs.Prelude.{Contains, AllPairs, cases_lt, nat_tests, All-append, Contains-get_or, get_or-map-range_with_len, length-map-range_with_len, AllPairs-cons, mul-le-mul_right, Slot, FileLayout, Extent, SlabPlace, padded_slab, is_fixed, record_size, record_count, each_slot, blocks, before, precedes, slot_findings, bytes_before, block_findings, record_slab, slabs_of, all_slabs, is_of_shared_bytes, FindsNone, AreApart, QuietSlabsAreApart, is_record_slot, value_end, contains-here, contains-there, contains-filter, greatest_from-above, ◌≡◌, ℕ, suc, ◌+◌, ◌-◌, ◌*◌, ◌<◌, ◌≤◌, true, List, [], ◌∷◌, ◌++◌, get_or, arith, refl}
+use Rattle.nccheck_laws.proofs.Prelude.{Contains, AllPairs, cases_lt, nat_tests, All-append, Contains-get_or, get_or-map-range_with_len, length-map-range_with_len, AllPairs-cons, mul-le-mul_right, Slot, FileLayout, Extent, SlabPlace, padded_slab_len, is_fixed, record_size, record_count, each_slot, blocks, before, precedes, slot_findings, bytes_before, block_findings, record_slab, slabs_of, all_slabs, is_of_shared_bytes, FindsNone, AreApart, QuietSlabsAreApart, is_record_slot, value_end, contains-here, contains-there, contains-filter, greatest_from-above, ◌≡◌, ℕ, suc, ◌+◌, ◌-◌, ◌*◌, ◌<◌, ◌≤◌, true, List, [], ◌∷◌, ◌++◌, get_or, arith, refl}
 use Rattle.nccheck_laws.proofs.FoundNone.{quiet-slot, quiet-block}
 use Rattle.nccheck_laws.proofs.IndexedSlots.{At, in-from, in-each, total-below, slab-fits, slab-le}
 use Rattle.nccheck_laws.proofs.LayoutBlocks.{fixed-there, records-there, records_end-above, first_begin, begins}
@@ -82,7 +82,7 @@ both-record layout k l r q x y quiet at_x at_y lt is_x is_y =
     let place_x = in-place layout k x quiet at_x is_x in
     let place_y = in-place layout l y quiet at_y is_y in
     let fits = in-record layout l y at_y is_y in
-    let below = total-below padded_slab is_record_slot layout.slots k l x at_x is_x lt in
+    let below = total-below padded_slab_len is_record_slot layout.slots k l x at_x is_x lt in
     grind (arith, cases_lt q r, next-record q r (size layout), λ (le : r ≤ q). mul-le-mul_right (size layout) le)
 
 fixed-record : (layout : FileLayout) (k l q : ℕ) (x y : Slot) → FindsNone is_of_shared_bytes layout → At layout.slots k x → At layout.slots l y

@@ -1,5 +1,5 @@
 -- What is found about the spelling at whole fields: that of what fills one up a byte isn't 0, and that a list has its own tag and no elements.
-use Rattle.nccheck_laws.proofs.Prelude.{list_any-append, nat_tests, ltb-false, Header, FormatFault, Bytes, Step, Padding, Tag, Vsize, Item, Content, Entry, FieldName, Owner, Field, seen_by, steps_of, name_steps, owner_steps, whole_content, seen, bytes_of, number_of, IsWritten, IsWrittenVsize, AreWritten, Fact, Finding, Indexed, field_at, indexed_from, indexed, finding, each_before, ahead_of, finding_by_name, attribute_finding, is_first, facts_with, field_findings, attribute_findings, floating_findings, name_findings, header_findings, is_of_spelling, has_any, is_field, next_number, number_in, empty_list, has_nonzero, fact_if, IsWrittenTag, ◌≡◌, ℕ, ◌+◌, ◌==◌, ◌&&◌, ◌||◌, not, Bool, false, List, [], ◌∷◌, ◌++◌, length, map, replicate, Option, None, refl, ap, ◌∙◌, arith, length-take-le, if◌then◌else◌, option_to_list, common_steps}
+use Rattle.nccheck_laws.proofs.Prelude.{list_any-append, nat_tests, ltb-false, Header, FormatFault, Bytes, Step, Padding, Tag, Vsize, Item, Content, Entry, FieldName, Owner, Field, seen_by, steps_of, name_steps, owner_steps, whole_content, seen, bytes_of, number_of, IsWritten, IsWrittenVsize, AreWritten, Fact, Finding, Indexed, field_at, indexed_from, indexed, finding, each_before, ahead_of, finding_by_name, attribute_finding, is_first, facts_with, field_findings, attribute_findings, floating_findings, name_findings, header_findings, is_of_spelling, has_any, is_field, next_number, number_at, empty_list, has_nonzero, then_some, IsWrittenTag, ◌≡◌, ℕ, ◌+◌, ◌==◌, ◌&&◌, ◌||◌, not, Bool, false, List, [], ◌∷◌, ◌++◌, length, map, replicate, Option, None, refl, ap, ◌∙◌, arith, length-take-le, if◌then◌else◌, option_to_list, common_steps}
 use Rattle.nc_fields.specs.declared.entry.Content.TheVariants as content
 use Rattle.nccheck_laws.proofs.QuietRules.{names-fail}
 use Rattle.nccheck_laws.proofs.Vsizes.{IsWhole, AreWhole}
@@ -54,7 +54,7 @@ any_odd (f ∷ after) = odd_padding f.steps f || odd_list f.steps f after || any
 -- ---- what is found at a field
 
 fact-none : (g : Indexed) (b : Bool) (x : Fact) (others : List Fact) → is_of_spelling x ≡ false
-    → any_spelling (map (finding g) (option_to_list (fact_if b x) ++ others)) ≡ any_spelling (map (finding g) others)
+    → any_spelling (map (finding g) (option_to_list (then_some b x) ++ others)) ≡ any_spelling (map (finding g) others)
 fact-none g v1 x others is = grind arith
 
 found-odd : (place : FieldName) (o : Owner) (size : ℕ) (g : Indexed) (f : Field) (fault : Option FormatFault) (c : Content) → fault ≡ None
@@ -66,9 +66,9 @@ choice-none : (b : Bool) (o : Option Finding) → any_spelling (option_to_list o
     → any_spelling (option_to_list (if b then o else None)) ≡ false
 choice-none v0 o is = grind arith
 
-count-odd : (tag : ℕ) (g : Indexed) (i offset : ℕ) (c : Content)
-    → any_spelling (option_to_list (empty_list g (content.Number tag) (number_in i offset c))) ≡ odd_count tag c
-count-odd tag g i offset v4 = grind arith
+count-odd : (tag : ℕ) (g : Indexed) (i : ℕ) (e : Entry)
+    → any_spelling (option_to_list (empty_list g (content.Number tag) (number_at (field_at i e)))) ≡ odd_count tag e.content
+count-odd tag g i e = grind arith
 
 tag-odd : (tag : ℕ) (g : Indexed) (k : ℕ) {es : List Entry} {fs : List Field} → AreOf es fs
     → any_spelling (option_to_list (empty_list g (content.Number tag) (next_number is_field (indexed_from k es)))) ≡ odd_tag tag fs

@@ -7,7 +7,7 @@ use Rattle.std.specs.Prelude.{◌≡◌, ◌≤◌, ◌<◌, IsSome, ◌⊎◌, 
 use Rattle.std.specs.List.{All, AllPairs, list_any}
 use Rattle.nc_layout.specs.declared.{slot.Slot.Slot, slot.FileLayout.FileLayout, finding.LayoutFact.LayoutFact, finding.LayoutFinding.LayoutFinding, file_end.SlabPlace.SlabPlace}
 use Rattle.nc_layout.specs.declared.finding.LayoutFact.TheVariants.{BeginInHeader, Overlap, Unpadded, Order, AfterRecords, RecordPlace, Gap, Missing, EndPadding, Trailing}
-use Rattle.nc_layout.specs.Slots.{padded_slab, is_fixed, record_size, record_count}
+use Rattle.nc_layout.specs.Slots.{padded_slab_len, is_fixed, record_size, record_count}
 use Rattle.nc_layout.specs.SlotRules.{bytes_before}
 use Rattle.nc_layout.specs.FileEnd.{values_end, all_slabs, first_cut_slab}
 use Rattle.nc_layout.specs.Findings.{IsSoundLayout, layout_findings}
@@ -36,7 +36,7 @@ FindsNone kind layout = list_any (λ (finding : LayoutFinding). kind finding.fac
 
 -- the bytes of the blocks of these slots that aren't record slots, with their padding
 abbrev pub fixed_bytes : List Slot → ℕ
-fixed_bytes slots = sum_by padded_slab (filter is_fixed slots)
+fixed_bytes slots = sum_by padded_slab_len (filter is_fixed slots)
 
 -- right after the header and the padded slabs that come before that of the slot at this index
 abbrev pub canonical_begin : FileLayout → ℕ → Slot → ℕ

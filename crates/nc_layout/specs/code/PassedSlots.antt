@@ -4,7 +4,7 @@ use Rattle.nc_layout.specs.declared.{slot.Slot.Slot, slot_rules.PassedSlots.Pass
 use Rattle.nc_layout.specs.declared.finding.LayoutPlace.TheVariants as places
 use Rattle.nc_layout.specs.declared.finding.LayoutFact.TheVariants as facts
 use Rattle.nc_layout.specs.FindingIf.{finding_if}
-use Rattle.nc_layout.specs.Slots.{padded_slab, is_fixed}
+use Rattle.nc_layout.specs.Slots.{padded_slab_len, is_fixed}
 use Rattle.nc_layout.specs.SlotRules.{greatest_begin, fixed_slot_at, bytes_before}
 
 abbrev pub is_record_slot : Slot → Bool
@@ -22,7 +22,7 @@ pub record HasPassed (slots : List Slot) (i : ℕ) (passed : PassedSlots) : Type
 abbrev pub passed_after : PassedSlots → ℕ → Slot → PassedSlots
 passed_after passed i slot =
     if slot.is_record
-    then record passed { record_bytes = passed.record_bytes + padded_slab slot; records_left = passed.records_left - 1 }
+    then record passed { record_bytes = passed.record_bytes + padded_slab_len slot; records_left = passed.records_left - 1 }
     else record passed {
       latest_begin = max passed.latest_begin slot.begin;
       latest = (if nat_lt passed.latest_begin slot.begin then i else passed.latest);

@@ -7,7 +7,7 @@ use Rattle.nc_fields.specs.declared.{header.Listing.Listing}
 use Rattle.nc_fields.specs.Entries.{number_of}
 use Rattle.nc_layout.specs.declared.{slot.FileLayout.FileLayout, finding.LayoutFinding.LayoutFinding}
 use Rattle.nc_layout.specs.declared.finding.LayoutPlace.TheVariants as places
-use Rattle.nc_layout.specs.Slots.{padded_slab}
+use Rattle.nc_layout.specs.Slots.{padded_slab_len}
 use Rattle.nc_layout.specs.Blocks.{each_slot}
 use Rattle.nc_layout.specs.Findings.{IsSoundLayout}
 use Rattle.nc_layout.specs.HeaderLayout.{layout_of}
@@ -48,7 +48,7 @@ vsize_fact v padded (Some f) =
 
 -- what is found of the sizes of all variables, whose fields these are
 abbrev pub vsize_facts : FileLayout → List NumberField → List Finding
-vsize_facts layout ns = each_slot (λ i slot. option_to_list (vsize_fact layout.version (padded_slab slot) (slice_get ns i))) 0 layout.slots
+vsize_facts layout ns = each_slot (λ i slot. option_to_list (vsize_fact layout.version (padded_slab_len slot) (slice_get ns i))) 0 layout.slots
 
 -- the layout is sound (within the limits), if the header is whole: no field is wrong
 abbrev pub HasSoundLayout : Listing → Type 0
