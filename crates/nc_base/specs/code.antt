@@ -5,5 +5,4 @@ pub mod OwedValues
 pub mod ListedRows
 pub mod Weight
 pub mod PartRuns
-pub mod Extents
 pub mod LaterPieces

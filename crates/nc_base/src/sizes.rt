@@ -1,12 +1,11 @@
-//! The sizes of slabs and of records, the number of records, and where a variable ends.
+//! The sizes of slabs and of records, and the number of records.
 
-ghost use Rattle.std.specs.Prelude.{◌≡◌, ◌+◌, ◌*◌, ◌/◌, ◌<◌, ◌≤◌, ◌^◌, ◌&&◌, IfSome, if◌then◌else◌, length, map, min, slice_get, SomeIff};
+ghost use Rattle.std.specs.Prelude.{◌≡◌, ◌+◌, ◌*◌, ◌/◌, ◌<◌, ◌≤◌, ◌^◌, ◌&&◌, IfSome, if◌then◌else◌, length, map, min, SomeIff};
 ghost use Rattle.nc_base.specs.Types.{size_of};
 ghost use Rattle.nc_base.specs.Bytes.{padding_len};
 ghost use Rattle.nc_base.specs.Sizes.{slab_len, dim_len, is_record_dim, is_record_shape, is_record_var, is_narrow, product, slab_size, padded_size, slab_limit, record_size, record_limit, record_vars, record_count};
-ghost use Rattle.nc_base.specs.code.SizeParts.{slab_at, checked_record_size, extent_sum, least_record_begin, min_begin, CountsValues, IsCappedSlab};
+ghost use Rattle.nc_base.specs.code.SizeParts.{slab_at, checked_record_size, least_record_begin, min_begin, CountsValues, IsCappedSlab};
 ghost use Rattle.nc_base.specs.GeneratedFile.{known_records};
-ghost use Rattle.nc_base.specs.code.Extents.{extent_end};
 ghost use Rattle.nc_base.specs.Headers.{IsSound};
 ghost use Rattle.nc_base.specs.Sizes.{value_count};
 
@@ -120,40 +119,6 @@ fn whole_records(bytes: u64, size: Option<u64>) -> u64
     match size {
         Some(size) if size > 0 => bytes / size,
         _ => 0,
-    }
-}
-
-/// Returns the first offset after the last value that the variable at index `v` has over `records` records, in bytes from the file's start.
-/// Returns the variable's begin if it has no value, such as a record variable over 0 records. Needs a sound header ([`Header::sound`]), and
-/// a variable at this index.
-///
-/// For callers of the library: the programs themselves never ask for it.
-pub fn extent_end(header: &Header, v: usize, records: u64) -> u128
-    requires sound { IsSound header.now }
-    requires there { v < length header.now.vars }
-    ensures { IfSome (slice_get header.now.vars v) (λ var. result ≡ extent_end header.now var records) }
-{
-    extent_sum(header, v, records)
-}
-
-/// Returns the offset that [`extent_end`] returns for `records` records: the begin for a record variable over 0 records, otherwise the sum
-/// of the begin, the bytes of the slab, and for a record variable one record size for each record after the first. It is there for its
-/// contract, which states this sum: that of [`extent_end`] states where the last value ends. Needs a sound header ([`Header::sound`]), and
-/// a variable at the index `v`.
-fn extent_sum(header: &Header, v: usize, records: u64) -> u128
-    requires sound { IsSound header.now }
-    requires there { v < length header.now.vars }
-    ensures { IfSome (slice_get header.now.vars v) (λ var. result ≡ extent_sum header.now records var) }
-{
-    let var = &header.vars.as_slice()[v];
-    let begin = var.begin_at as u128;
-    let slab = sound_slab_size(header, v) as u128;
-    if !is_record_var(header.dims.as_slice(), var) {
-        begin + slab
-    } else if records == 0 {
-        begin
-    } else {
-        begin + (records - 1) as u128 * sound_record_size(header) as u128 + slab
     }
 }
 
