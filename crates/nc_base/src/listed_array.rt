@@ -1,6 +1,6 @@
 //! The bytes of the values that a text lists for a variable, with each row as long as it is listed.
 
-ghost use Rattle.std.specs.Prelude.{◌≡◌, ◌++◌, ◌∷◌, ◌≤◌, ◌<◌, ◌-◌, [], drop, get_or, length, max, min, replicate, take, IfOk, IfSome, OnOk, OnErr};
+ghost use Rattle.std.specs.Prelude.{◌≡◌, ◌++◌, ◌≤◌, ◌<◌, ◌-◌, [], drop, get_or, length, max, min, replicate, take, IfOk, IfSome, OnOk, OnErr};
 ghost use Rattle.nc_base.specs.code.ListedRows.{StandAt, row_of, row_start};
 
 use std::alloc::{AllocError, Global};
@@ -71,20 +71,6 @@ impl ListedArray {
         ensures err { OnErr result (self.new ≡ self.old) }
     {
         self.bytes.extend_from_slice(bytes)?;
-        Ok(())
-    }
-
-    /// Appends the byte.
-    ///
-    /// # Errors
-    ///
-    /// An allocation failed. The array stays as it was.
-    #[tactic(auto, using(crate::proofs::FilledRows::filled_append))]
-    pub fn add_byte(&mut self, byte: u8) -> Result<(), AllocError>
-        ensures ok { OnOk result (self.new ≡ self.old ++ byte ∷ []) }
-        ensures err { OnErr result (self.new ≡ self.old) }
-    {
-        self.bytes.push(byte)?;
         Ok(())
     }
 

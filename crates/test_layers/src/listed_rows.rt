@@ -15,9 +15,7 @@ fn array_of(alloc: Global, rows: &[Row], after: &str) -> Result<ListedArray, All
         array.add(listed.as_bytes())?;
         array.end_row(*lacking, *fill)?;
     }
-    for byte in after.as_bytes() {
-        array.add_byte(*byte)?;
-    }
+    array.add(after.as_bytes())?;
     Ok(array)
 }
 
