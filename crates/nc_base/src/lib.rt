@@ -54,8 +54,7 @@ pub use path::stem;
 pub use sequence::Sequence;
 pub use sizes::{
     RECORD_LIMIT, RecordLayout, dim_len, is_record_dim, is_record_shape, is_record_var,
-    padding_len, rec_size, record_layout, records, slab_bytes, slab_len, sound_record_size,
-    value_count,
+    padding_len, record_layout, slab_bytes, slab_len, sound_record_size, value_count,
 };
 pub use version::Version;
 pub use weights::weight;

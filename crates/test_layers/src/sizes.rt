@@ -1,7 +1,7 @@
 //! Sizes of small headers, worked out by hand.
 
 use crate::header_rows::{EMPTY, HeaderRow, NamedLength, NamedShape, dims_of, header_of};
-use nc_base::{NcType, NumRecs, rec_size, records, slab_len};
+use nc_base::{NcType, NumRecs, record_layout, slab_len};
 use std::test::Fail;
 
 #[test]
@@ -73,8 +73,9 @@ fn records_are_counted_from_the_least_begin(rt: HostRuntime) -> Result<(), Fail>
             ..STREAMING
         };
         let header = header_of(rt.alloc(), &row)?;
-        assert!(rt; rec_size(&header) == Some(*size), "{vars:?}");
-        assert!(rt; records(&header, *len) == *count, "{vars:?}");
+        assert!(rt; header.sound(), "{vars:?}");
+        let layout = record_layout(&header, *len);
+        assert!(rt; layout.record_size == *size && layout.records == *count, "{vars:?}");
     }
     Ok(())
 }
