@@ -24,12 +24,14 @@ pub struct ListedArray {
     fill: u8,
 }
 
-/// Part of the bytes of a [`ListedArray`]: the stored bytes `bytes`, and after them `filling` copies of the byte `fill`, which aren't
-/// stored.
+/// Part of the bytes of a [`ListedArray`]: stored bytes, and after them fill bytes, which aren't stored.
 #[derive(Clone, Copy, Debug)]
 pub struct Run<'a> {
+    /// The stored bytes.
     pub bytes: &'a [u8],
+    /// The number of fill bytes after them.
     pub filling: u64,
+    /// The fill byte.
     pub fill: u8,
 }
 
