@@ -1,6 +1,7 @@
 -- One read of a walk, and what the walk is afterwards.
-use Rattle.nc_walk.proofs.Prelude.{◌≡◌, ℕ, ◌+◌, ◌-◌, ◌*◌, ◌/◌, ◌<◌, ◌≤◌, Bool, List, ◌++◌, length, take, drop, map, sym, ◌∙◌, ap, subst, arith, length-append, length-take, Option, None, Some, Result, Ok, Err, IfOk, IfErr, All, concat, take-append-le, div-add-mod', mod-mul-add, mul-div_cancel, mul-le-mul_right, le_of_mul-le-mul_right, div-mul-le_self, bytes_at, SourceView, having_read, Slabs, Cursor, ReadInFull, FailedReadInFull, total, number_at, offset, offsets_from, offsets_after, Ready, IsSized, IsCursor, IsWhole, Exactly, ReturnsValues, Failing, Truncated, ReadValues, Steps, Advanced, reading, between, standing, stopped, as_answer, count, ReadFailed, DataTruncated, Reads, mod-lt}
+use Rattle.nc_walk.proofs.Prelude.{◌≡◌, ℕ, ◌+◌, ◌-◌, ◌*◌, ◌/◌, ◌<◌, ◌≤◌, Bool, List, ◌++◌, length, take, drop, map, sym, ◌∙◌, ap, subst, arith, length-append, length-take, Option, None, Some, Ok, Err, All, concat, take-append-le, div-add-mod', mod-mul-add, mul-div_cancel, mul-le-mul_right, le_of_mul-le-mul_right, div-mul-le_self, bytes_at, SourceView, having_read, Slabs, Cursor, ReadInFull, FailedReadInFull, total, number_at, offset, offsets_from, offsets_after, Ready, IsSized, IsCursor, IsWhole, Exactly, ReturnsValues, Failing, Truncated, ReadValues, Steps, Advanced, reading, between, standing, stopped, as_answer, count, DataTruncated, mod-lt}
 use Rattle.nc_walk.specs.declared.fault.WalkFault.{WalkFault}
+use Rattle.nc_walk.specs.code.Chunks.{Collects}
 use Rattle.nc_walk.proofs.FullReadSteps.{transparent_any, transparent_map, transparent_both}
 use Rattle.nc_walk.proofs.Runs.{length-offsets, take-offsets, drop-offsets, first_offset, run_bytes, run_within, ready_whole}
 
@@ -97,26 +98,22 @@ module _ (is_transparent : Bool) (l : Slabs) (cursor : Cursor) (capacity : ℕ) 
   most : got / l.size ≤ n
   most = few is_transparent l i capacity had before now ys rest n got sized more fits ready some len f.within
 
-  pub answered : (result : Result ℕ WalkFault) → IfOk result (λ m. m ≡ got / l.size) → IfOk result (λ m. 0 < m) → IfErr result (λ fault. (fault ≡ DataTruncated i) × (got / l.size ≡ 0))
-      → Reads is_transparent (reading l cursor had (ys ++ rest)) (between before now) result
-  answered (Ok m) whole some_came none =
-      subst (λ (k : ℕ). (k * l.size ≤ length (ys ++ rest)) × ReturnsValues is_transparent (standing l i had) before now (take (k * l.size) (ys ++ rest)) k) (sym whole)
-      (came is_transparent l i capacity had before now ys rest n got sized more fits ready some len f (subst (λ (k : ℕ). 0 < k) whole some_came))
-  answered (Err ReadFailed) whole some_came none = absurd (let e = none.0 in cc)
-  answered (Err (DataTruncated k)) whole some_came none =
-      let e = none.0 in
-      let same : i ≡ k = cc in
-      subst (λ (j : ℕ). Truncated is_transparent (standing l i had) before now j) same (came_none is_transparent l i capacity had before now ys rest n got sized more fits ready some len f none.1)
+  -- m of them are whole, one at least
+  pub came_whole : (m : ℕ) → m ≡ got / l.size → 0 < m
+      → ((m * l.size ≤ length (ys ++ rest)) × ReturnsValues is_transparent (standing l i had) before now (take (m * l.size) (ys ++ rest)) m)
+      × (cursor.within + m ≤ l.values_per_slab)
+      × (cursor.within + m ≡ l.values_per_slab → ReadValues l i before now m)
+  came_whole m whole some_came = (
+    subst (λ (k : ℕ). (k * l.size ≤ length (ys ++ rest)) × ReturnsValues is_transparent (standing l i had) before now (take (k * l.size) (ys ++ rest)) k) (sym whole)
+        (came is_transparent l i capacity had before now ys rest n got sized more fits ready some len f (subst (λ (k : ℕ). 0 < k) whole some_came)),
+    omega (arith, in_slab, most),
+    λ full. subst (ReadValues l i before now) (sym whole)
+        (values_read is_transparent l i capacity had before now ys rest n got sized more fits ready some len f (omega (arith, in_slab, full, whole))),
+  )
 
-  pub ends_in_slab : (result : Result ℕ WalkFault) → IfOk result (λ m. m ≡ got / l.size) → IfOk result (λ m. cursor.within + m ≤ l.values_per_slab)
-  ends_in_slab (Ok m) whole = omega (arith, in_slab, most, whole)
-  ends_in_slab (Err fault) whole = tt
-
-  pub slab_read : (result : Result ℕ WalkFault) → IfOk result (λ m. m ≡ got / l.size) → IfOk result (λ m. cursor.within + m ≡ l.values_per_slab → ReadValues l i before now m)
-  slab_read (Ok m) whole = λ full.
-      subst (ReadValues l i before now) (sym whole)
-      (values_read is_transparent l i capacity had before now ys rest n got sized more fits ready some len f (omega (arith, in_slab, whole, full)))
-  slab_read (Err fault) whole = tt
+  -- none is whole
+  pub came_partly : (fault : WalkFault) → fault ≡ DataTruncated i → got / l.size ≡ 0 → Collects is_transparent (reading l cursor had (ys ++ rest)) (between before now) (Err fault)
+  came_partly fault is none = rw is (came_none is_transparent l i capacity had before now ys rest n got sized more fits ready some len f none)
 
 -- ---- afterwards
 

@@ -1,5 +1,5 @@
 -- The names that proofs of this crate cite from elsewhere, passed on from one place.
-pub use Rattle.std.proofs.Common.{◌≡◌, ℕ, zero, suc, ◌+◌, ◌-◌, ◌*◌, ◌/◌, ◌%◌, ◌<◌, ◌≤◌, List, length, get_or, take, drop, map, refl, sym, ◌∙◌, ap, subst, arith, All, Bool, ◌++◌, None, Some, Ok, Err, rules, if◌then◌else◌, ◌^◌, min, length-append, Option, Result, IfOk, IfErr, inl, inr, [], ◌∷◌, replicate, append_assoc, true, false, zip}
+pub use Rattle.std.proofs.Common.{◌≡◌, ℕ, zero, suc, ◌+◌, ◌-◌, ◌*◌, ◌/◌, ◌%◌, ◌<◌, ◌≤◌, List, length, get_or, take, drop, map, refl, sym, ◌∙◌, ap, subst, arith, All, Bool, ◌++◌, None, Some, Ok, Err, rules, if◌then◌else◌, ◌^◌, min, length-append, Option, inl, inr, [], ◌∷◌, replicate, append_assoc, true, false, zip}
 pub use Rattle.devices.proofs.UpTo.{UpTo, appended-nothing, up-all, up-next, up-partway, up-start, up-then}
 unfoldable pub use Rattle.devices.specs.Failures.{HasFailed}
 pub use Rattle.devices.specs.Sinks.{Appended, FailedPartway}
@@ -30,7 +30,7 @@ pub use Rattle.nc_walk.specs.code.Slabs.{AreSlabsOf, IsCursor, IsOffset, IsSized
 unfoldable pub use Rattle.nc_walk.specs.code.Slabs.{offsets_from}
 pub use Rattle.devices.specs.Uses.{Use, between, use_of}
 pub use Rattle.nc_walk.specs.code.Walked.{Gives, GivesChunk, GivesCut, GivesEnd, GivesFailure, HasRead, IsChunk, Pass, StoredNumbers, Walked, going_on, offsets_in, total_in, whole_count, whole_in}
-pub use Rattle.nc_walk.specs.code.Walks.{Advanced, Answer, Exactly, Failing, IsWhole, ReadValues, Reading, ReturnsValues, Starts, Steps, Truncated, WalkView, as_answer, count, reading, standing, stopped, Reads}
+pub use Rattle.nc_walk.specs.code.Walks.{Advanced, Answer, Exactly, Failing, IsWhole, ReadValues, Reading, ReturnsValues, Starts, Steps, Truncated, WalkView, as_answer, count, reading, standing, stopped}
 pub use Rattle.nc_walk.specs.declared.{cursor.Cursor.Cursor, slabs.Slabs.Slabs, write.record_slab.RecordSlab.RecordSlab}
 pub use Rattle.std.proofs.Math.Nat.{div-mul-le_self, le_of_mul-le-mul_right, lt_of_mul-lt-mul_right, mul-div_cancel, mul-le-mul_left, mul-le-mul_right, mul-sub, mod-lt}
 pub use Rattle.std.proofs.Math.Seq.{drop-nil, take-add, take-append-add, take-append_seam, take-nil}

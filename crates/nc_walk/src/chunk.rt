@@ -1,14 +1,14 @@
 //! Values of one slab after the other, side by side in a slice.
 
-ghost use Rattle.std.specs.Prelude.{◌+◌, ◌≤◌, ◌↔◌, IsTrue, IfOk};
-ghost use Rattle.nc_walk.specs.code.Slabs.{IsCursor, AreReady, HasCapacity};
+ghost use Rattle.std.specs.Prelude.{◌≡◌, ◌+◌, ◌*◌, ◌/◌, ◌^◌, ◌<◌, ◌≤◌, ◌↔◌, IsTrue, IfOk, IfErr};
+ghost use Rattle.nc_walk.specs.code.Slabs.{IsCursor, AreReady, HasCapacity, number_at};
 ghost use Rattle.devices.specs.Uses.{use_of};
 ghost use Rattle.nc_walk.specs.code.Walks.{reading};
 ghost use Rattle.nc_walk.specs.code.Chunks.{Collects, Continues, ReadToSlabEnd};
 
 use crate::cursor::Cursor;
 use crate::fault::WalkFault;
-use crate::reading::read_values;
+use crate::read_full::read_full;
 use crate::slabs::Slabs;
 use devices::Source;
 
@@ -33,9 +33,9 @@ impl Chunk {
     }
 }
 
-/// Reads the next `ready` values, side by side in one slab, into the start of `into`, by [`read_values`]. The first one is the value at
-/// `cursor`, and `at` is its offset in the source, in bytes. Returns a [`Chunk`]: how many values came whole (fewer than `ready` if the
-/// source has ended before the length that it states), and the cursor after them. If they end with their slab, exactly their bytes were
+/// Reads the next `ready` values, which lie side by side in one slab, into the start of `into`. The first one is the value at `cursor`, and
+/// `at` is its offset in the source, in bytes. Returns a [`Chunk`]: how many values came whole, at least 1, and fewer than `ready` if the
+/// source has ended before the length that it states; and the cursor after them. If they end with their slab, exactly their bytes were
 /// read, even of an opaque source. Needs a `ready` of at least 1, and values that all end inside of the slab, of `into`, and of that
 /// length.
 ///
@@ -43,7 +43,7 @@ impl Chunk {
 ///
 /// `ReadFailed` if the source failed; `DataTruncated` with the number of the value at `cursor` if not even this one came whole.
 #[inline(always)]
-fn read_values_as_chunk<S: Source>(
+fn read_values<S: Source>(
     slabs: &Slabs,
     cursor: Cursor,
     at: u64,
@@ -57,9 +57,40 @@ fn read_values_as_chunk<S: Source>(
     ensures in_slab { IfOk result (λ chunk. cursor.within + chunk.values ≤ slabs.now.values_per_slab) }
     ensures slab_read { IfOk result (ReadToSlabEnd slabs.now cursor S.view source.old source.new) }
 {
-    let values = read_values(slabs, cursor, at, ready, source, into)?;
+    let wanted = (ready * slabs.size) as usize;
+    let got = read_full(source, at, &mut into[..wanted])?;
+    let values = whole_values(slabs, cursor, ready, got as u64)?;
     let next = cursor.cursor_after(*slabs, values);
     Ok(Chunk { values, next })
+}
+
+/// Returns how many of `ready` values are whole if the first `got` of their bytes were read: `got` divided by the size of a value, rounded
+/// down. The first value is at `cursor`, which only the fault needs. Needs a `ready` and a size of at least 1, values with fewer than 2^64
+/// bytes in all, and a `got` of at most as many.
+///
+/// # Errors
+///
+/// `DataTruncated` with the number of the first value if not even this one is whole.
+#[inline(always)]
+fn whole_values(slabs: &Slabs, cursor: Cursor, ready: u64, got: u64) -> Result<u64, WalkFault>
+    requires some { 0 < ready }
+    requires size { 0 < slabs.now.size }
+    requires fits { ready * slabs.now.size < 2 ^ 64 }
+    requires within { got ≤ ready * slabs.now.size }
+    ensures whole { IfOk result (λ n. n ≡ got / slabs.now.size) }
+    ensures some { IfOk result (λ n. 0 < n) }
+    ensures none { IfErr result (λ fault.
+        (fault ≡ WalkFault.DataTruncated (number_at slabs.now cursor))
+        × (got / slabs.now.size ≡ 0)) }
+{
+    if got == ready * slabs.size {
+        return Ok(ready);
+    }
+    let whole = got / slabs.size;
+    if whole == 0 {
+        return Err(WalkFault::DataTruncated(cursor.number(*slabs)));
+    }
+    Ok(whole)
 }
 
 /// Reads values of one slab, from the one at `cursor` on, into the start of `into`: those up to the slab's end that are whole inside of the
@@ -88,7 +119,7 @@ fn read_from_slab<S: Source>(
         return Err(WalkFault::DataTruncated(cursor.number(*slabs)));
     }
     let at = slabs.offset(cursor) as u64;
-    read_values_as_chunk(slabs, cursor, at, ready, source, into)
+    read_values(slabs, cursor, at, ready, source, into)
 }
 
 /// Reads values, from the one at `cursor` on, of one slab after the other, into the start of `into`. Stops after `capacity` values, after
@@ -122,7 +153,7 @@ pub(crate) fn read_chunk<S: Source>(
     {
         let bytes_so_far = (chunk.values * slabs.size) as usize;
         let rest = &mut into[bytes_so_far..];
-        match read_values_as_chunk(&slabs, chunk.next, at, slabs.values_per_slab, source, rest) {
+        match read_values(&slabs, chunk.next, at, slabs.values_per_slab, source, rest) {
             Ok(slab) => {
                 chunk = Chunk {
                     values: chunk.values + slab.values,

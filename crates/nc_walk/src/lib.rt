@@ -26,7 +26,6 @@ mod cursor;
 mod fault;
 pub mod laws;
 mod read_full;
-mod reading;
 mod slabs;
 mod walk;
 mod write;

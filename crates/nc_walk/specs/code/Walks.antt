@@ -13,7 +13,6 @@ use Rattle.devices.specs.code.SourceReads.{having_read}
 use Rattle.nc_walk.specs.declared.{fault.WalkFault.WalkFault, slabs.Slabs.Slabs, cursor.Cursor.Cursor}
 use Rattle.nc_walk.specs.declared.fault.WalkFault.TheVariants.{ReadFailed, DataTruncated}
 use Rattle.nc_walk.specs.code.Slabs.{offsets_after, number_at, IsSized, IsCursor}
-use Rattle.devices.specs.Uses.{Use}
 use Rattle.nc_walk.specs.code.FullReads.{FailedReadInFull}
 
 -- the bytes of a value, the offsets of the values that it has still to hand out, how many it has handed out, the fault
@@ -154,10 +153,6 @@ pub record ReadValues (l : Slabs) (i : ℕ) (before now : SourceView) (n : ℕ) 
   pub whole : All (IsWhole l.size before.bytes) (take n (offsets_after l i))
   pub handed : now ≡ having_read before (n * l.size)
 
--- if n values from this cursor on end their slab, all bytes came that the source was asked for: also from an opaque source
-abbrev pub ReadsSlabToEnd : {S : Type 0} → Slabs → Cursor → (S → SourceView) → S → S → ℕ → Type 0
-ReadsSlabToEnd l cursor view old new n = cursor.within + n ≡ l.values_per_slab → ReadValues l (number_at l cursor) (view old) (view new) n
-
 -- a call that reads values from a cursor on to the start of a slice: the slabs, the cursor, and the slice before and after
 pub record Reading : Type 0 where
   pub slabs : Slabs
@@ -175,12 +170,6 @@ walk_of r = standing r.slabs (number_at r.slabs r.cursor) r.had
 -- the first n values of the slice, as bytes
 abbrev pub values_in : Reading → ℕ → List ℕ
 values_in r n = take (n * r.slabs.size) r.buf
-
--- what reading values of one slab has done: the next n values stand at the start of the slice, or a fault was found
-abbrev pub Reads : Bool → Reading → Use SourceView → Result ℕ WalkFault → Type 0
-Reads is_transparent r s (Ok n) = (n * r.slabs.size ≤ length r.buf) × ReturnsValues is_transparent (walk_of r) s.before s.after (values_in r n) n
-Reads is_transparent r s (Err ReadFailed) = (n : ℕ) × Failing (walk_of r) s.before s.after n
-Reads is_transparent r s (Err (DataTruncated k)) = Truncated is_transparent (walk_of r) s.before s.after k
 
 -- n bytes at the start of the buffer, as an answer
 abbrev pub as_answer : List ℕ → Result ℕ WalkFault → Answer

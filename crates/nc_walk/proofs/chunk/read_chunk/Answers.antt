@@ -28,8 +28,8 @@ follows l cursor values capacity len at into had before now n sized first is fit
     subst (λ (k : ℕ). (at ≡ offset l (number_at l cursor)) × Ready l (number_at l cursor) room k l.values_per_slab) (known ∙ ap (λ (s : SourceView). length s.bytes) (sym handed))
     (whole_ready l cursor room len at sized first is fits.1 small (omega (arith, up, left)))
 
-pub read_values_as_chunk-requires : goal.read_values_as_chunk-requires
-read_values_as_chunk-requires g c =
+pub read_values-requires : goal.read_values-requires
+read_values-requires g c =
     let test = c.loop-slabs-test.ensures.0 refl in
     let next = follows c.args.slabs.now c.loop-slabs.chunk.next c.loop-slabs.chunk.values c.args.capacity c.len-len.result c.loop-slabs.at c.loop-slabs.into c.args.into.now (g.S.Source.view c.args.source.now) (g.S.Source.view c.loop-slabs.source) _
     c.requires.sized test.slab (c.loop-slabs.invariant.at test.slab) (c.if-has_whole_slab.ensures.0 refl) c.len-len.type_inv
@@ -53,7 +53,7 @@ loop-slabs-preserved g c =
 pub returns-in-Err-ReadFailed : goal.returns-in-Err-ReadFailed
 returns-in-Err-ReadFailed g c =
     let test = c.loop-slabs-test.ensures.0 refl in
-    fails g.S.Source.is_transparent _ _ _ _ _ c.read_values_as_chunk.new.into _ _ _ _ 0 c.loop-slabs.invariant.going test.slab
+    fails g.S.Source.is_transparent _ _ _ _ _ c.read_values.new.into _ _ _ _ 0 c.loop-slabs.invariant.going test.slab
     (room (c.loop-slabs.chunk.values * c.args.slabs.now.size) c.loop-slabs.into c.args.into.now c.loop-slabs.invariant.going.collected.fits (c.loop-slabs.auto.into ∙ c.read_from_slab.auto.into))
     _ (rw c.in-Err-ReadFailed.field-0-is at c.in-Err-ReadFailed.ensures.collects).1
 
