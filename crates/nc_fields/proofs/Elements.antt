@@ -1,7 +1,7 @@
 -- Readers of the elements of a list, one after the other.
-use Rattle.nc_fields.proofs.Prelude.{Ghosts, Reader, HeadFault, Step, Part, done, chain, under, Checked, OutOfMemory, left, OnTrue_from, first, Item, each, shorter, ◌≡◌, ℕ, suc, ◌+◌, ◌-◌, ◌<◌, ◌≤◌, List, [], ◌∷◌, ◌++◌, length, drop, Option, Result, Ok, Err, refl, sym, ap, subst, arith, length-append}
+use Rattle.nc_fields.proofs.Prelude.{Ghosts, Reader, HeadFault, FormatFault, Step, Part, checked, done, chain, under, Checked, OutOfMemory, left, OnTrue_from, first, Item, each, shorter, ◌≡◌, ℕ, suc, ◌+◌, ◌-◌, ◌<◌, ◌≤◌, Bool, true, List, [], ◌∷◌, ◌++◌, length, drop, Option, Result, Ok, Err, refl, sym, ap, subst, arith, length-append}
 use Rattle.std.proofs.Math.Nat.{sub-zero}
-use Rattle.nc_fields.proofs.Checks.{chain_lists}
+use Rattle.nc_fields.proofs.Checks.{chain_lists, part_lists, is_one}
 pub use Rattle.nc_fields.proofs.Checks.{failed}
 
 -- the next element, and then the others
@@ -30,6 +30,11 @@ module _ {S : Type 0} {g : Ghosts S} where
 
   pub checked-done : {A : Type 0} {r : Reader S g} {steps : List Step} {x : A} → Checked r r steps (done x) (Ok x)
   checked-done = grind (arith, chain_lists)
+
+  -- one field, whose value passes a test
+  pub checked-passes : {A : Type 0} {old new : Reader S g} {steps : List Step} {p : Part A} {x : A} (test : A → Bool) (fault : FormatFault) → is_one p ≡ true → test x ≡ true → Checked old new steps p (Ok x)
+      → Checked old new steps (checked test fault p) (Ok x)
+  checked-passes test fault one is c = grind (arith, part_lists)
 
   -- a part under a step that comes first: it was read, and then the others; or it was not
   pub part-then : {A B : Type 0} {old mid new : Reader S g} {steps : List Step} {step : Step} {get : B → Option A} {p : Part A} {next : A → Part B} {x : A} {result : Result B HeadFault}

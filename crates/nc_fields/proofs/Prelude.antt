@@ -1,14 +1,14 @@
 -- The names that proofs of this crate cite from elsewhere, passed on from one place.
 pub use Rattle.devices.specs.declared.{source.Source.Ghosts}
 pub use Rattle.nc_base.specs.Bytes.{Bytes, padding_len}
-pub use Rattle.nc_base.specs.Grammar.{att_after, checked, dim_after, dimid_after, first, var_after}
-unfoldable pub use Rattle.nc_base.specs.Grammar.{att_part, dim_part, dimid_part, each, header_by, ignored, list_head, number, var_part}
+pub use Rattle.nc_base.specs.Grammar.{att_after, checked, dim_after, dimid_after, first, is_within_limits, var_after}
+unfoldable pub use Rattle.nc_base.specs.Grammar.{att_part, dim_part, dimid_part, each, header_by, ignored, list_head, number, type_part, var_part}
 pub use Rattle.nc_base.specs.Parts.{Dims, Item, Magic, Part, Shape, Step, Vars, bytes, chain, decoded, done, under}
 pub use Rattle.nc_base.specs.Sizes.{has_record_dim}
 pub use Rattle.nc_base.specs.code.PartRuns.{Outcome, and_then, with_rest}
 unfoldable pub use Rattle.nc_base.specs.code.PartRuns.{left_after, run}
 pub use Rattle.nc_base.specs.declared.{fault.FormatFault.FormatFault, header.Header.Header}
-pub use Rattle.nc_base.specs.declared.fault.FormatFault.TheVariants.{HeaderTruncated, NotNetcdf}
+pub use Rattle.nc_base.specs.declared.fault.FormatFault.TheVariants.{HeaderTruncated, NotNetcdf, TooLarge}
 pub use Rattle.nc_fields.specs.Entries.{Seen, cut_content, ends_with_nul, hdf5_signature, kept_letters, number_in, owner_steps, seen_by, steps_of, whole_content}
 unfoldable pub use Rattle.nc_fields.specs.Entries.{seen}
 pub use Rattle.nc_fields.specs.Fields.{Field, judged}
@@ -20,7 +20,7 @@ pub use Rattle.nc_fields.specs.code.PassedValues.{PassesValues, in_place}
 pub use Rattle.nc_fields.specs.declared.{entry.Content.Content, entry.Entry.Entry, fields.PendingField.PendingField, header.Listing.Listing, list_fault.ListFault.ListFault, number.NumberWidth.NumberWidth, place.Owner.Owner, place.Place.Place}
 pub use Rattle.nc_fields.specs.declared.entry.Content.TheVariants.{Cut, Number}
 pub use Rattle.nc_file.proofs.Bytes.{IsAdvanced, Progress, Stopped, chunk-next, kept-then, on-by, read-content, stop-bytes}
-pub use Rattle.nc_file.proofs.PartRuns.{after-chain, after-decoded, has_record-next, left_after-err, left_after-ok, run-chain, run-decoded, run-done, run-under, shorter}
+pub use Rattle.nc_file.proofs.PartRuns.{after-chain, after-decoded, has_record-next, left_after-err, left_after-ok, run-chain, run-decoded, run-done, run-under, shorter, within}
 pub use Rattle.nc_file.proofs.Totals.{total_of, total_of-append}
 pub use Rattle.nc_file.specs.code.Window.{Caused, FailsOnly, Kept, Read, Reads, Ready, left, next_of, source_of}
 pub use Rattle.nc_file.specs.declared.{head_fault.HeadFault.HeadFault, window.Window.Window}

@@ -1,35 +1,27 @@
 //! Variables.
 
-ghost use Rattle.std.specs.Prelude.{◌≡◌, ◌+◌, ◌∷◌, [], IfOk, IsTrue};
-ghost use Rattle.nc_base.specs.Grammar.{checked, dimid_after, each, is_within_limits, record_bytes, shape_part, type_part, var_after, var_list, var_part};
+ghost use Rattle.std.specs.Prelude.{◌≡◌, ◌∷◌, [], IfOk};
+ghost use Rattle.nc_base.specs.Grammar.{checked, dimid_after, each, is_within_limits, shape_part, type_part, var_after, var_list, var_part};
 ghost use Rattle.nc_base.specs.Parts.{Shape, TypeCode, Vars};
 ghost use Rattle.nc_base.specs.declared.fault.FormatFault.TheVariants.{TooLarge};
 ghost use Rattle.nc_fields.specs.Lenient.{lenient};
+ghost use Rattle.nc_file.specs.code.SizedVars.{IsCounted, IsCountedType, type_of, var_of};
 
 use crate::fields::FieldReader;
 use crate::list_name::HeaderList;
 use crate::number::NumberWidth;
 use crate::place::{FieldName, Owner, Place};
 use devices::Source;
-use nc_base::{Dim, FormatFault, NcType, Sequence, Var, Version};
-use nc_file::{HeadFault, Window, total_with};
+use nc_base::{Dim, FormatFault, Sequence, Var, Version};
+use nc_file::{HeadFault, SizedType, SizedVar, Window, total_with};
 use std::alloc::Global;
 
 /// The tag of a list of variables (`NC_VARIABLE`).
 const NC_VARIABLE: u64 = 11;
 
-/// A variable that was read, with the sum that limits the size of a record.
-#[derive(Drop)]
-pub(crate) struct CountedVar {
-    pub(crate) var: Var,
-    /// The bytes of the padded slabs of all record variables up to and including `var`.
-    pub(crate) total: u64,
-}
-
 impl FieldReader {
     ghost use Rattle.nc_fields.specs.Entries.{owner_steps};
     ghost use Rattle.nc_fields.specs.code.Checks.{at, Checked};
-    ghost use Rattle.nc_fields.specs.code.Lists.{var_of};
 
     /// Reads the `n` dimension ids of a variable (`owner`), adds them to the field list, and returns them. Errs with `BadShape` if one is
     /// the id of no dimension of `dims`, or one after the first is that of the record dimension, with `HeaderTruncated` if bytes are
@@ -76,11 +68,11 @@ impl FieldReader {
         self.dimids(window, alloc, version, owner, dims, n)
     }
 
-    /// Reads the type code of a variable (`owner`) with the shape `dimids`, adds it to the field list, and returns the type, or for a
-    /// floating type the integer type of its size. Errs with `BadType` if the version has no such type, with `TooLarge` if the slab passes
-    /// 2^48 bytes, or the padded slabs of the record variables up to it 2^62 (`total` is the bytes of those before it), with
-    /// `HeaderTruncated` if bytes are missing, and if the source or an allocation fails.
-    #[tactic(auto, using(crate::proofs::Checks::part_lists), unfolding(nc_base::specs::Grammar::number, nc_base::specs::Grammar::type_part))]
+    /// Reads the type code of a variable (`owner`) with the shape `dimids`, and adds it to the field list. Returns the type, or for a
+    /// floating type the integer type of its size, with the bytes of the padded slabs of all record variables up to this one: `total`, those
+    /// before it, plus its own if it is a record variable. Errs with `BadType` if the version has no such type, with `TooLarge` if the slab
+    /// passes 2^48 bytes or the sum 2^62, with `HeaderTruncated` if bytes are missing, and if the source or an allocation fails.
+    #[tactic(auto, using(crate::proofs::Checks::part_lists), unfolding(nc_base::specs::Grammar::number, nc_base::specs::Grammar::type_part, nc_file::specs::code::SizedVars::total_with))]
     fn var_type<S: Source>(
         &mut self,
         window: &mut Window<'_, S>,
@@ -89,24 +81,21 @@ impl FieldReader {
         dims: &[Dim],
         dimids: &[u64],
         total: u64,
-    ) -> Result<NcType, HeadFault>
+    ) -> Result<SizedType, HeadFault>
         ensures var_type { Checked (at window.old self.old) (at window.new self.new)
             (TypeCode ∷ owner_steps owner)
             (checked (is_within_limits dims.now total dimids.now) TooLarge (type_part lenient version))
-            result }
-        ensures fits { IfOk result (λ ty. IsTrue (is_within_limits dims.now total dimids.now ty)) }
+            (type_of result) }
+        ensures total { IfOk result (IsCountedType dims.now dimids.now total) }
     {
         let ty = self.nc_type(window, version, owner)?;
-        if !is_within_limits(dims, dimids, ty, total) {
-            return Err(HeadFault::Format(FormatFault::TooLarge));
-        }
-        Ok(ty)
+        let total = total_with(dims, dimids, ty, total).ok_or(FormatFault::TooLarge)?;
+        Ok(SizedType { ty, total })
     }
 
     /// Reads the variable of this number, from 0, adds its fields to the field list, and returns it, without the values of its attributes,
     /// and with the bytes of the padded slabs of all record variables up to and including it. `total` is the bytes of those before it. Errs
     /// with the fault of the first wrong field, and if the source or an allocation fails.
-    #[tactic(auto, unfolding(nc_file::specs::code::SizedVars::total_with))]
     fn var<S: Source>(
         &mut self,
         window: &mut Window<'_, S>,
@@ -115,12 +104,11 @@ impl FieldReader {
         number: u64,
         dims: &[Dim],
         total: u64,
-    ) -> Result<CountedVar, HeadFault>
+    ) -> Result<SizedVar, HeadFault>
         ensures var { Checked (at window.old self.old) (at window.new self.new)
             (owner_steps (Owner.Var number))
             (var_part lenient version dims.now total) (var_of result) }
-        ensures total { IfOk result (λ v.
-            v.total ≡ total + record_bytes dims.now v.var.dimids v.var.ty) }
+        ensures total { IfOk result (IsCounted dims.now total) }
     {
         let owner = Owner::Var(number);
         let vsize = Place {
@@ -131,18 +119,20 @@ impl FieldReader {
         let dimids = self.shape(window, alloc, version, owner, dims)?;
         let atts = self.att_list(window, alloc, version, HeaderList::Atts(number))?;
         let ids = dimids.as_slice();
-        let ty = self.var_type(window, version, owner, dims, ids, total)?;
-        let total = total_with(dims, ids, ty, total).unwrap();
+        let sized = self.var_type(window, version, owner, dims, ids, total)?;
         self.number(window, vsize, NumberWidth::of_counts(version))?;
         let begin_at = self.begin(window, version, owner)?;
         let var = Var {
             name,
             dimids,
             atts,
-            ty,
+            ty: sized.ty,
             begin_at,
         };
-        Ok(CountedVar { var, total })
+        Ok(SizedVar {
+            var,
+            total: sized.total,
+        })
     }
 
     /// Reads the `n` variables of the list, adds their fields to the field list, and returns them. Errs with the fault of the first wrong
@@ -161,9 +151,9 @@ impl FieldReader {
         let mut vars = Sequence::new(alloc);
         let mut total = 0;
         for i in 0..n {
-            let counted = self.var(window, alloc, version, i, dims, total)?;
-            total = counted.total;
-            vars.push(counted.var)?;
+            let sized = self.var(window, alloc, version, i, dims, total)?;
+            total = sized.total;
+            vars.push(sized.var)?;
         }
         Ok(vars)
     }
@@ -184,13 +174,4 @@ impl FieldReader {
         let n = self.list_len(window, version, HeaderList::Vars, NC_VARIABLE)?;
         self.vars(window, alloc, version, dims, n)
     }
-}
-
-/// Returns true if the slab of a variable of this shape and type is within 2^48 bytes, and the padded slabs of the record variables up to
-/// it are within 2^62 bytes together. Those before it have `total` bytes.
-#[tactic(auto, unfolding(nc_file::specs::code::SizedVars::total_with))]
-fn is_within_limits(dims: &[Dim], dimids: &[u64], ty: NcType, total: u64) -> bool
-    ensures { result ≡ is_within_limits dims.now total dimids.now ty }
-{
-    total_with(dims, dimids, ty, total).is_some()
 }

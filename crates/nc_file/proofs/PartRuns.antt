@@ -204,7 +204,7 @@ pub ruleset cuts = (run-cut, run-cut_err, left-cut)
 
 -- ---- the limits of a variable
 
-within : (dims : List Dim) (ids : List ℕ) (ty : NcType) (total sum : ℕ) → Some sum ≡ total_with dims ids ty total → is_within_limits dims total ids ty ≡ true
+pub within : (dims : List Dim) (ids : List ℕ) (ty : NcType) (total sum : ℕ) → Some sum ≡ total_with dims ids ty total → is_within_limits dims total ids ty ≡ true
 unfolding total_with
 within dims ids ty total sum e = grind arith
 

@@ -24,5 +24,6 @@ mod write;
 
 pub use head_fault::HeadFault;
 pub use read::{is_dimid, read_header, total_with, type_in};
+pub use sized_var::{SizedType, SizedVar};
 pub use window::Window;
 pub use write::{OffsetTooLarge, header_len, with_begins, write_header};

@@ -4,16 +4,18 @@ use nc_base::{NcType, Var};
 
 /// A variable that was read, with the sum that limits the size of a record.
 #[derive(Drop)]
-pub(crate) struct SizedVar {
-    pub(crate) var: Var,
+pub struct SizedVar {
+    /// The variable.
+    pub var: Var,
     /// The bytes of the padded slabs of all record variables up to and including `var`.
-    pub(crate) total: u64,
+    pub total: u64,
 }
 
 /// The type of a variable that was read, with the sum that limits the size of a record.
 #[derive(Drop)]
-pub(crate) struct SizedType {
-    pub(crate) ty: NcType,
+pub struct SizedType {
+    /// The type.
+    pub ty: NcType,
     /// The bytes of the padded slabs of all record variables up to and including the one that has this type.
-    pub(crate) total: u64,
+    pub total: u64,
 }

@@ -1,8 +1,5 @@
 -- For contracts. The lists of a header.
-use Rattle.std.specs.Prelude.{List, [], ◌∷◌, Result, Ok, Err}
-use Rattle.nc_base.specs.declared.header.Var.{Var}
-use Rattle.nc_file.specs.declared.head_fault.HeadFault.{HeadFault}
-use Rattle.nc_fields.specs.declared.variable.CountedVar.{CountedVar}
+use Rattle.std.specs.Prelude.{List, [], ◌∷◌}
 use Rattle.nc_base.specs.Parts.{Step, Dims, Gatts, Vars, Item, Atts}
 use Rattle.nc_fields.specs.declared.list_name.HeaderList.{HeaderList}
 use Rattle.nc_fields.specs.declared.list_name.HeaderList.TheVariants as name
@@ -13,8 +10,3 @@ list_steps name.Dims = Dims ∷ []
 list_steps name.GlobalAtts = Gatts ∷ []
 list_steps name.Vars = Vars ∷ []
 list_steps (name.Atts i) = Atts ∷ Item i ∷ Vars ∷ []
-
--- a variable that was read, without the bytes of a record
-abbrev pub var_of : Result CountedVar HeadFault → Result Var HeadFault
-var_of (Ok counted) = Ok counted.var
-var_of (Err e) = Err e
