@@ -123,14 +123,9 @@ fn read_quickly<'a>(
     if sign_ends {
         return Err(QuickPassFault::Unnamed);
     }
-    match value_due {
-        Due::Value { takes_fill } => {
-            if !takes_fill {
-                return Err(QuickPassFault::Unnamed);
-            }
-        }
-        _ => return Err(QuickPassFault::Unnamed),
-    }
+    let Due::Value { takes_fill: true } = value_due else {
+        return Err(QuickPassFault::Unnamed);
+    };
     let FoundTarget { position, target } = target_of(alloc, names, targets, name.bytes)?;
     let packed = pack_and_check(alloc, value, target.form, target.capacity)?;
     Ok(StatementValues {

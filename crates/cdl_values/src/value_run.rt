@@ -5,7 +5,7 @@ ghost use Rattle.cdl_statements.specs.code.Cutters.{is_done};
 ghost use Rattle.cdl_statements.specs.code.ListedTokens.{EndsAtScanner, IsAtComma};
 ghost use Rattle.cdl_values.specs.code.PackedValues.{capacity_minus};
 ghost use Rattle.cdl_statements.specs.code.ValueLists.{reached};
-ghost use Rattle.cdl_values.specs.code.ValueRuns.{GoesTo, IfTaken, TakesOne, TakesPlain, TakesRows, TakesTo, list_place, place};
+ghost use Rattle.cdl_values.specs.code.ValueRuns.{GoesTo, IfTaken, TakesOne, TakesRows, TakesTo, list_place, place};
 
 use crate::capacity::Capacity;
 use crate::fill::Fill;
@@ -44,25 +44,24 @@ pub fn take_run<'a>(
     ensures { GoesTo due form.now (place start.entry array.old) array.new result }
 {
     match due {
-        Due::Separator { takes_fill } if start.cutter.is_at_comma() => {
-            take_values(array, start, form, takes_fill)
+        Due::Separator { takes_fill: true } if start.cutter.is_at_comma() => {
+            take_values(array, start, form)
         }
         _ => Ok(start),
     }
 }
 
-/// Appends to `array` the values that come next, each with a comma before and after it, and returns what is unread after them. Needs a
-/// cutter at the first comma. `_` counts as a value if `takes_fill` is true. Errs with `Unnamed` if a token between two commas is no value
-/// or the value has a fault, and with `OutOfMemory` if an allocation failed; the values before stay appended.
+/// Appends to `array` the values that come next, each with a comma before and after it, and returns what is unread after them. `_` counts
+/// as a value. Needs a cutter at the first comma. Errs with `Unnamed` if a token between two commas is no value or the value has a fault,
+/// and with `OutOfMemory` if an allocation failed; the values before stay appended.
 #[inline(never)]
 fn take_values<'a>(
     array: &mut ListedArray,
     start: UnreadValues<'a>,
     form: &ValueForm,
-    takes_fill: bool,
 ) -> Result<UnreadValues<'a>, QuickPassFault>
     requires { IsAtComma start.cutter }
-    ensures { TakesTo takes_fill form.now (place start.entry array.old) array.new result }
+    ensures { TakesTo form.now (place start.entry array.old) array.new result }
 {
     let version = start.cutter.version();
     let mut unread = start;
@@ -70,12 +69,12 @@ fn take_values<'a>(
         let Some(token) = unread.cutter.token_and_comma() else {
             return Ok(unread);
         };
-        if !token.is_value(takes_fill) {
+        if !token.is_value(true) {
             return Err(QuickPassFault::Unnamed);
         }
         unread.capacity = put_checked_value(array, version, form, unread.capacity, token)?;
         if token.may_precede_plain() {
-            unread = take_plain_values(array, unread, form, takes_fill)?;
+            unread = take_plain_values(array, unread, form)?;
         }
     }
 }
@@ -87,46 +86,44 @@ fn take_plain_values<'a>(
     array: &mut ListedArray,
     start: UnreadValues<'a>,
     form: &ValueForm,
-    takes_fill: bool,
 ) -> Result<UnreadValues<'a>, QuickPassFault>
     requires at { IsAtComma start.cutter }
     requires ends { EndsAtScanner start.cutter }
-    ensures { TakesTo takes_fill form.now (place start.entry array.old) array.new result }
+    ensures { TakesTo form.now (place start.entry array.old) array.new result }
 {
     match form {
-        ValueForm::Numbers(fill) => take_numbers(array, start, *fill, takes_fill),
+        ValueForm::Numbers(fill) => take_numbers(array, start, *fill),
         ValueForm::Rows { len, fill } => take_rows(array, start, *len, *fill),
         ValueForm::Joined => Ok(start),
     }
 }
 
-/// Appends to `array` the plain numbers that come next and, if `takes_fill` is true, the fill value for each `_` among them. Returns what
-/// is unread after them. Stops before the first other value, before one without a comma after it, and when the capacity is used up. Needs a
-/// cutter at a comma, with its scanner just after this comma. Errs with `Unnamed` if a number is out of the type's range, and with
-/// `OutOfMemory` if an allocation failed; the values before stay appended.
+/// Appends to `array` the plain numbers that come next, and the fill value for each `_` among them. Returns what is unread after them.
+/// Stops before the first other value, before one without a comma after it, and when the capacity is used up. Needs a cutter at a comma,
+/// with its scanner just after this comma. Errs with `Unnamed` if a number is out of the type's range, and with `OutOfMemory` if an
+/// allocation failed; the values before stay appended.
 #[inline(never)]
 fn take_numbers<'a>(
     array: &mut ListedArray,
     start: UnreadValues<'a>,
     fill: Fill,
-    takes_fill: bool,
 ) -> Result<UnreadValues<'a>, QuickPassFault>
     requires at { IsAtComma start.cutter }
     requires ends { EndsAtScanner start.cutter }
-    ensures { TakesTo takes_fill (ValueForm.Numbers fill) (place start.entry array.old)
+    ensures { TakesTo (ValueForm.Numbers fill) (place start.entry array.old)
         array.new result }
 {
     // A loop for each type, so that the loop itself doesn't ask for it.
     match fill.ty {
-        NcType::Byte => take_numbers_of_type(array, start, fill, NcType::Byte, takes_fill),
-        NcType::Char => take_numbers_of_type(array, start, fill, NcType::Char, takes_fill),
-        NcType::Short => take_numbers_of_type(array, start, fill, NcType::Short, takes_fill),
-        NcType::Int => take_numbers_of_type(array, start, fill, NcType::Int, takes_fill),
-        NcType::Ubyte => take_numbers_of_type(array, start, fill, NcType::Ubyte, takes_fill),
-        NcType::Ushort => take_numbers_of_type(array, start, fill, NcType::Ushort, takes_fill),
-        NcType::Uint => take_numbers_of_type(array, start, fill, NcType::Uint, takes_fill),
-        NcType::Int64 => take_numbers_of_type(array, start, fill, NcType::Int64, takes_fill),
-        NcType::Uint64 => take_numbers_of_type(array, start, fill, NcType::Uint64, takes_fill),
+        NcType::Byte => take_numbers_of_type(array, start, fill, NcType::Byte),
+        NcType::Char => take_numbers_of_type(array, start, fill, NcType::Char),
+        NcType::Short => take_numbers_of_type(array, start, fill, NcType::Short),
+        NcType::Int => take_numbers_of_type(array, start, fill, NcType::Int),
+        NcType::Ubyte => take_numbers_of_type(array, start, fill, NcType::Ubyte),
+        NcType::Ushort => take_numbers_of_type(array, start, fill, NcType::Ushort),
+        NcType::Uint => take_numbers_of_type(array, start, fill, NcType::Uint),
+        NcType::Int64 => take_numbers_of_type(array, start, fill, NcType::Int64),
+        NcType::Uint64 => take_numbers_of_type(array, start, fill, NcType::Uint64),
     }
 }
 
@@ -138,19 +135,18 @@ fn take_numbers_of_type<'a>(
     start: UnreadValues<'a>,
     fill: Fill,
     ty: NcType,
-    takes_fill: bool,
 ) -> Result<UnreadValues<'a>, QuickPassFault>
     requires at { IsAtComma start.cutter }
     requires ends { EndsAtScanner start.cutter }
     requires ty { ty ≡ fill.ty }
-    ensures { TakesTo takes_fill (ValueForm.Numbers fill) (place start.entry array.old)
+    ensures { TakesTo (ValueForm.Numbers fill) (place start.entry array.old)
         array.new result }
 {
     let room = start.capacity.limit();
     let mut list = ValueList::new(start.cutter);
     let mut left = room;
     'numbers: while left > 0 {
-        if !put_next_number(array, &mut list, fill, ty, takes_fill)? {
+        if !put_next_number(array, &mut list, fill, ty)? {
             break;
         }
         left -= 1;
@@ -159,20 +155,19 @@ fn take_numbers_of_type<'a>(
 }
 
 /// Appends to `array` the next value of `list`, and returns true. If a plain number with a comma after it comes next, the value is this
-/// number; if a `_` with a comma comes next and `takes_fill` is true, it is the fill value. Otherwise appends nothing, and returns false;
-/// `list` stays where it is. `ty` is the type of `fill`. Needs a list that began at a comma inside of a statement. Errs with `NumberRange`
-/// if the number is out of the type's range, and with `OutOfMemory` if an allocation failed.
+/// number; if a `_` with a comma comes next, it is the fill value. Otherwise appends nothing, and returns false; `list` stays where it is.
+/// `ty` is the type of `fill`. Needs a list that began at a comma inside of a statement. Errs with `NumberRange` if the number is out of
+/// the type's range, and with `OutOfMemory` if an allocation failed.
 #[inline(always)]
 fn put_next_number(
     array: &mut ListedArray,
     list: &mut ValueList<'_>,
     fill: Fill,
     ty: NcType,
-    takes_fill: bool,
 ) -> Result<bool, ReadError>
     requires at { IsAtComma (reached list.old) }
     requires ty { ty ≡ fill.ty }
-    ensures more { IfTaken (TakesOne takes_fill fill list.old list.new array.old array.new) result }
+    ensures more { IfTaken (TakesOne fill list.old list.new array.old array.new) result }
     ensures same_list { IfOk result (λ more. more ≡ false → list.new ≡ list.old) }
     ensures same_array { IfOk result (λ more. more ≡ false → array.new ≡ array.old) }
 {
@@ -180,7 +175,7 @@ fn put_next_number(
         put_numeral_inline(array, ty, n)?;
         return Ok(true);
     }
-    if takes_fill && list.underscore_and_comma() {
+    if list.underscore_and_comma() {
         pack_number(array, ty, fill.value)?;
         return Ok(true);
     }
@@ -200,7 +195,7 @@ fn take_rows<'a>(
 ) -> Result<UnreadValues<'a>, QuickPassFault>
     requires at { IsAtComma start.cutter }
     requires ends { EndsAtScanner start.cutter }
-    ensures { TakesPlain (ValueForm.Rows len fill) (place start.entry array.old) array.new result }
+    ensures { TakesTo (ValueForm.Rows len fill) (place start.entry array.old) array.new result }
 {
     let mut list = ValueList::new(start.cutter);
     let count = put_rows(array, &mut list, start.capacity.limit(), len, fill)?;

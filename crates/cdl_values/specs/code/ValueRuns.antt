@@ -23,37 +23,33 @@ pub record GoesOn (due : Due) (form : ValueForm) (start rest : Place) : Type 0 w
   pub passes : PassesGood due start.cutter rest.cutter
   pub packs : joined (Ok rest.bytes) (packed form rest.left (values (version_of start.cutter) (words rest.cutter))) ≡ joined (Ok start.bytes) (packed form start.left (values (version_of start.cutter) (words start.cutter)))
 
--- From comma to comma of a list of values.
-pub record TakesValues (takes_fill : Bool) (form : ValueForm) (start rest : Place) : Type 0 where
+-- From comma to comma of a list of values, where a `_` may stand.
+pub record TakesValues (form : ValueForm) (start rest : Place) : Type 0 where
   pub at : IsAtComma rest.cutter
-  pub on : GoesOn (Separator takes_fill) form start rest
+  pub on : GoesOn (Separator true) form start rest
 
 -- with an Ok the bytes have become these, and the values that are left are unread
 abbrev pub GoesTo : Due → ValueForm → Place → List ℕ → Result UnreadValues QuickPassFault → Type 0
 GoesTo due form start bytes result = IfOk result (λ rest. GoesOn due form start (place rest bytes))
 
 -- the same from comma to comma
-abbrev pub TakesTo : Bool → ValueForm → Place → List ℕ → Result UnreadValues QuickPassFault → Type 0
-TakesTo takes_fill form start bytes result = IfOk result (λ rest. TakesValues takes_fill form start (place rest bytes))
+abbrev pub TakesTo : ValueForm → Place → List ℕ → Result UnreadValues QuickPassFault → Type 0
+TakesTo form start bytes result = IfOk result (λ rest. TakesValues form start (place rest bytes))
 
 -- the place where a list stands
 abbrev pub list_place : ValueList → List ℕ → Capacity → Place
 list_place list bytes left = record { cutter = reached list; bytes = bytes; left = left }
 
 -- one value more of a list, with the bytes before it and after it; a variable of numbers takes it if it takes any
-abbrev pub TakesOne : Bool → Fill → ValueList → ValueList → List ℕ → List ℕ → Type 0
-TakesOne takes_fill fill start rest before after =
-    (left : Capacity) → is_full left ≡ false → TakesValues takes_fill (Numbers fill) (list_place start before left) (list_place rest after (capacity_minus 1 left))
+abbrev pub TakesOne : Fill → ValueList → ValueList → List ℕ → List ℕ → Type 0
+TakesOne fill start rest before after =
+    (left : Capacity) → is_full left ≡ false → TakesValues (Numbers fill) (list_place start before left) (list_place rest after (capacity_minus 1 left))
 
 -- from one place to another, `count` rows more of a list; a variable takes them if it takes `room` rows
 abbrev pub TakesRows : ℕ → ValueForm → (Capacity → Place) → (Capacity → Place) → ℕ → Type 0
 TakesRows room form start rest count =
-    (takes_fill : Bool) (left : Capacity) → ((k : ℕ) → k < room → is_full (capacity_minus k left) ≡ false) → TakesValues takes_fill form (start left) (rest (capacity_minus count left))
+    (left : Capacity) → ((k : ℕ) → k < room → is_full (capacity_minus k left) ≡ false) → TakesValues form (start left) (rest (capacity_minus count left))
 
 -- if the answer is that there is one
 abbrev pub IfTaken : Type 0 → Result Bool ReadError → Type 0
 IfTaken taken result = IfOk result (λ is_taken. is_taken ≡ true → taken)
-
--- none of these values is a `_`, so that it doesn't matter if one may stand there
-abbrev pub TakesPlain : ValueForm → Place → List ℕ → Result UnreadValues QuickPassFault → Type 0
-TakesPlain form start bytes result = (takes_fill : Bool) → TakesTo takes_fill form start bytes result

@@ -17,7 +17,7 @@ returns-clause-read c =
     let e-is = going (words equals) (words value) e (lexeme_of c.lexeme-sign.result) c.advanced-sign_ends.result.1 c.advanced-sign_ends.ensures.words (sym c.lexeme-sign.ensures.lexeme) c.if-sign_ends.false in
     let on : completes DataName (words start) ≡ true =
     ap (completes DataName) n-is ∙ ap (λ d. completes d (words equals)) (sym c.after-equals_due.ensures) ∙ ap (completes c.after-equals_due.result) e-is ∙ ap (λ d. completes d (words value)) (sym c.after-value_due.ensures) ∙
-    ap (λ due. completes due (words value)) (c.in-Value.is ∙ ap dues.Value (let b : c.in-Value.takes_fill ≡ true = search rules in b)) ∙ c.in_ok-packed.ensures.shaped in
+    ap (λ due. completes due (words value)) (c.in-Value-true.is ∙ ap dues.Value (let b : c.in-Value-true.takes_fill ≡ true = search rules in b)) ∙ c.in_ok-packed.ensures.shaped in
     let good = quick_good version (words start) (words equals) (words value) n e c.advanced-name_ends.result.1 c.advanced-sign_ends.result.1 c.advanced-name_ends.ensures.words c.advanced-sign_ends.ensures.words
     c.if-name_ends.false c.if-sign_ends.false on (ap (λ v. first_bad v (words value)) (sym (c.advanced-sign_ends.ensures.same.version ∙ c.advanced-name_ends.ensures.same.version)) ∙ c.in_ok-packed.ensures.bad) in
     read_on version names c.args.targets.now (words start) (words equals) (words value) n e c.advanced-name_ends.result.1 c.advanced-sign_ends.result.1 c.advanced-name_ends.ensures.words c.advanced-sign_ends.ensures.words good on ∙

@@ -17,11 +17,11 @@ rows-preserved c =
     let adds : joined (Ok l.array) (row_bytes a.len a.fill false (Characters n)) ≡ Ok new = search rules in
     record {
       at = e.passes.passes.at;
-      so = λ takes_fill left room.
+      so = λ left room.
           let start = list_place a.list.now a.array.now left in
           let here = list_place l.list l.array (capacity_minus l.count left) in
           let there = list_place c.string_and_comma.new.self new (capacity_minus (l.count + 1) left) in
-          takes_further takes_fill (Rows a.len a.fill) start here there (l.invariant.so takes_fill left room) (row_on takes_fill a.len a.fill here there n l.invariant.at e.passes (room l.count c.rows-test.true) adds (grind arith));
+          takes_further (Rows a.len a.fill) start here there (l.invariant.so left room) (row_on a.len a.fill here there n l.invariant.at e.passes (room l.count c.rows-test.true) adds (grind arith));
     }
 
 pub returns-in_default : goal.returns-in_default

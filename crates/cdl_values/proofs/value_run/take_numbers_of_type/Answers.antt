@@ -14,7 +14,7 @@ numbers-init c =
     record {
       within = omega arith;
       at = at_same_comma (lists.reached c.new-list.result) a.start.cutter same c.requires.at;
-      so = ended_at a.takes_fill (Numbers a.fill) start start (lists.reached c.new-list.result) (capacity_minus (room - room) a.start.capacity) same (grind arith) (stays a.takes_fill (Numbers a.fill) start c.requires.at);
+      so = ended_at (Numbers a.fill) start start (lists.reached c.new-list.result) (capacity_minus (room - room) a.start.capacity) same (grind arith) (stays (Numbers a.fill) start c.requires.at);
     }
 
 pub numbers-preserved : goal.numbers-preserved
@@ -27,7 +27,7 @@ returns c =
     let r = c.after_values in
     let left = capacity_minus (c.limit-room.result - l.left) a.start.capacity in
     let start = place a.start a.array.now in
-    let ended_in : ValueList → List ℕ → Type 0 = λ list bytes. TakesValues a.takes_fill (Numbers a.fill) start (reached (lists.reached list) bytes left) in
+    let ended_in : ValueList → List ℕ → Type 0 = λ list bytes. TakesValues (Numbers a.fill) start (reached (lists.reached list) bytes left) in
     let so : ended_in c.numbers-test.list c.numbers-test.array = elim c.numbers-test.branch [
       | else-numbers-test w ↦ subst₂ ended_in (sym w.list-is) (sym w.array-is) l.invariant.so
       | then-numbers-test+in_ok-put_next_number+then-not-branch w ↦
@@ -35,5 +35,5 @@ returns c =
           let none = w.if-not-branch.true in
           subst₂ ended_in (sym (w.list-is ∙ e.same_list none)) (sym (w.array-is ∙ e.same_array none)) l.invariant.so
     ] in
-    ended_at a.takes_fill (Numbers a.fill) start (reached (lists.reached c.numbers-test.list) c.numbers-test.array left) r.result.cutter r.result.capacity
+    ended_at (Numbers a.fill) start (reached (lists.reached c.numbers-test.list) c.numbers-test.array left) r.result.cutter r.result.capacity
     (subst (λ (x : Cutter). lists.SamePlace x (lists.reached c.numbers-test.list)) (sym r.ensures.cutter) c.cutter.ensures) r.ensures.capacity so

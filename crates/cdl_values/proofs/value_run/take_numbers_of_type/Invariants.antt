@@ -7,7 +7,7 @@ abbrev pub invariant-numbers : goal.invariant-numbers
 invariant-numbers l = record {
   within : l.left ≤ l.room;
   at : IsAtComma (lists.reached l.list);
-  so : TakesValues l.takes_fill (Numbers l.fn.fill) (place l.fn.start l.fn.array) (reached (lists.reached l.list) l.array (capacity_minus (l.room - l.left) l.fn.start.capacity));
+  so : TakesValues (Numbers l.fn.fill) (place l.fn.start l.fn.array) (reached (lists.reached l.list) l.array (capacity_minus (l.room - l.left) l.fn.start.capacity));
 }
 
 abbrev pub decreases-numbers : goal.decreases-numbers

@@ -5,7 +5,7 @@ abbrev pub invariant-values : goal.invariant-values
 invariant-values l = record {
   at : IsAtComma l.unread.cutter;
   version : l.version ≡ version_of l.unread.cutter;
-  so : TakesValues l.takes_fill l.form (place l.fn.start l.fn.array) (place l.unread l.array);
+  so : TakesValues l.form (place l.fn.start l.fn.array) (place l.unread l.array);
 }
 
 abbrev pub decreases-values : goal.decreases-values
