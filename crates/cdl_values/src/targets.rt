@@ -1,6 +1,6 @@
 //! What the variables take from the data section.
 
-ghost use Rattle.std.specs.Prelude.{◌≡◌, ◌<◌, ◌-◌, ◌*◌, [], min, map, take, length, IfOk};
+ghost use Rattle.std.specs.Prelude.{◌≡◌, ◌<◌, ◌-◌, [], min, map, take, length, IfOk};
 ghost use Rattle.nc_base.specs.Headers.{AreDimids};
 ghost use Rattle.nc_base.specs.Sizes.{dim_len, product};
 ghost use Rattle.nc_base.specs.declared.nc_type.NcType.TheVariants.{Char};
@@ -89,39 +89,22 @@ fn capacity(dims: &[Dim], var: &Var, form: ValueForm) -> Capacity
         return Capacity::Unlimited;
     }
     match form {
-        ValueForm::Numbers(_) => Capacity::AtMost(place_count(dims, dimids)),
-        ValueForm::Joined => Capacity::AtMost(first_len(dims, dimids)),
+        ValueForm::Numbers(_) | ValueForm::Joined => Capacity::AtMost(place_count(dims, dimids)),
         ValueForm::Rows { .. } => Capacity::AtMost(place_count(dims, all_but_last(dimids))),
     }
 }
 
-/// Returns how many values a variable with these dimensions has: the product of their lengths, or `u64::MAX` if the product is greater.
+/// Returns how many values a variable with these dimensions has: the product of their lengths, or `u64::MAX` if the product is greater. With
+/// fewer than two dimensions it never is.
 fn place_count(dims: &[Dim], dimids: &[u64]) -> u64
-    ensures { result ≡ min (product (map (dim_len dims.now) dimids.now)) most }
+    ensures capped { result ≡ min (product (map (dim_len dims.now) dimids.now)) most }
+    ensures short { length dimids.now < 2 → result ≡ product (map (dim_len dims.now) dimids.now) }
 {
-    let mut count = 1;
+    let mut count: u64 = 1;
     for id in dimids {
-        count = saturating_product(count, dim_len(dims, *id));
+        count = count.saturating_mul(dim_len(dims, *id));
     }
     count
-}
-
-/// Returns the product of `count` and `len`, or `u64::MAX` if the product is greater.
-fn saturating_product(count: u64, len: u64) -> u64
-    ensures { result ≡ min (count * len) most }
-{
-    count.saturating_mul(len)
-}
-
-/// Returns the length of the first of these dimensions, or 1 if there is none: the number of bytes of a char variable of rank 0 or 1. The
-/// contract leaves out two dimensions or more.
-fn first_len(dims: &[Dim], dimids: &[u64]) -> u64
-    ensures { length dimids.now < 2 → result ≡ product (map (dim_len dims.now) dimids.now) }
-{
-    match dimids {
-        [] => 1,
-        [id, ..] => dim_len(dims, *id),
-    }
 }
 
 /// Returns the dimensions without the last one, or none if there is none.
