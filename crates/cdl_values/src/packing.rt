@@ -92,10 +92,8 @@ pub fn pack_and_check<'a>(
     'tokens: loop {
         let token = unread.cutter.lexeme();
         let ends = unread.cutter.advance();
-        let capacity = unread.capacity;
-        (unread.capacity, due) = put_checked_token(
-            &mut array, version, &form, capacity, due, token,
-        )?;
+        due = due.after(token);
+        unread.capacity = put_checked_token(&mut array, version, form, unread.capacity, token)?;
         if ends {
             if due.is_whole() {
                 return Ok(Packed {
@@ -105,6 +103,6 @@ pub fn pack_and_check<'a>(
             }
             return Err(QuickPassFault::Unnamed);
         }
-        unread = take_run(&mut array, unread, &form, due)?;
+        unread = take_run(&mut array, unread, form, due)?;
     }
 }

@@ -94,8 +94,8 @@ fn capacity(dims: &[Dim], var: &Var, form: ValueForm) -> Capacity
     }
 }
 
-/// Returns how many values a variable with these dimensions has: the product of their lengths, or `u64::MAX` if the product is greater. With
-/// fewer than two dimensions it never is.
+/// Returns how many values a variable with these dimensions has: the product of their lengths, or `u64::MAX` if the product is greater (it
+/// is not with fewer than two dimensions).
 fn place_count(dims: &[Dim], dimids: &[u64]) -> u64
     ensures capped { result ≡ min (product (map (dim_len dims.now) dimids.now)) most }
     ensures short { length dimids.now < 2 → result ≡ product (map (dim_len dims.now) dimids.now) }

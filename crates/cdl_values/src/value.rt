@@ -1,13 +1,11 @@
 //! The values of the data section, one at a time. `form` is the form in which the variable takes values, and `capacity` is how many more
 //! it takes.
 
-ghost use Rattle.std.specs.Prelude.{◌≡◌, None, OnOk, IfOk};
-ghost use Rattle.cdl_statements.specs.code.DueTokens.{next};
+ghost use Rattle.std.specs.Prelude.{◌≡◌, None, OnOk};
 ghost use Rattle.cdl_statements.specs.Shapes.{token_fault};
-ghost use Rattle.cdl_statements.specs.code.Views.{lexeme_of};
 ghost use Rattle.cdl_statements.specs.declared.fault.CdlKind.{CdlKind};
 ghost use Rattle.cdl_values.specs.code.Answers.{Adds, RefusesValue};
-ghost use Rattle.cdl_values.specs.code.TokenValues.{Appends, AppendsNumber, CountsOne, PacksGood, PacksToken, TakesGood};
+ghost use Rattle.cdl_values.specs.code.TokenValues.{Appends, AppendsNumber, CountsOne, PacksGood, PacksToken};
 ghost use Rattle.cdl_values.specs.code.TokenValues.{at, number_token_bytes, token_bytes};
 
 use crate::capacity::Capacity;
@@ -16,7 +14,7 @@ use crate::form::ValueForm;
 use crate::number::{number_or_zero, pack_number, put_numeral};
 use crate::read_error::ReadError;
 use crate::string::{put_joined_string, put_row};
-use cdl_statements::{CdlKind, Due, Lexeme};
+use cdl_statements::{CdlKind, Lexeme};
 use cdl_tokens::{TokenKind, number_of_token};
 use nc_base::{ListedArray, Version};
 
@@ -70,31 +68,24 @@ pub fn put_token(
 }
 
 /// Appends to `array` the bytes of the token's value, or nothing if the token is a mark, and checks the token, unlike [`put_token`].
-/// Returns what is left of `capacity` (how many more values the variable takes in the form `form`), and which token has to come next. `due`
-/// says which one had to come in this place: if not this token, the result's is `Never`, and the value is appended all the same. Errs with
-/// `Unnamed` if the token has a fault, such as a suffix that `version` doesn't have, or if its value has one, and with `OutOfMemory` if an
-/// allocation failed; either way, bytes of the value may be appended.
+/// Returns what is left of `capacity` (how many more values the variable takes in the form `form`). Errs with `Unnamed` if the token has a
+/// fault, such as a suffix that `version` doesn't have, or if its value has one, and with `OutOfMemory` if an allocation failed; either way,
+/// bytes of the value may be appended.
 #[inline]
 #[tactic(auto, using(cdl_statements::proofs::Listing::past_mark))]
 pub fn put_checked_token(
     array: &mut ListedArray,
     version: Version,
-    form: &ValueForm,
+    form: ValueForm,
     capacity: Capacity,
-    due: Due,
     token: Lexeme<'_>,
-) -> Result<(Capacity, Due), QuickPassFault>
+) -> Result<Capacity, QuickPassFault>
     ensures good { OnOk result (token_fault version token.entry.kind token.entry.bytes.now ≡ None) }
-    ensures shape { IfOk result (λ r. r.1 ≡ next due (lexeme_of token.entry)) }
-    ensures packs { TakesGood version form.now token.entry (at array.old capacity) array.new result }
+    ensures packs { PacksGood version form token.entry (at array.old capacity) array.new result }
 {
-    let then = due.after(token);
     match token.kind {
-        TokenKind::Mark => Ok((capacity, then)),
-        _ => {
-            let left = put_checked_value(array, version, form, capacity, token)?;
-            Ok((left, then))
-        }
+        TokenKind::Mark => Ok(capacity),
+        _ => put_checked_value(array, version, form, capacity, token),
     }
 }
 
@@ -104,18 +95,18 @@ pub fn put_checked_token(
 pub fn put_checked_value(
     array: &mut ListedArray,
     version: Version,
-    form: &ValueForm,
+    form: ValueForm,
     capacity: Capacity,
     token: Lexeme<'_>,
 ) -> Result<Capacity, QuickPassFault>
     requires { token.kind ≡ TokenKind.Mark → ⊥ }
     ensures good { OnOk result (token_fault version token.entry.kind token.entry.bytes.now ≡ None) }
-    ensures packs { PacksGood version form.now token.entry (at array.old capacity) array.new result }
+    ensures packs { PacksGood version form token.entry (at array.old capacity) array.new result }
 {
     match token.kind {
         // A number is one value, so that its bytes needn't be counted.
         TokenKind::Number => {
-            put_checked_number(array, version, *form, capacity, token.bytes)?;
+            put_checked_number(array, version, form, capacity, token.bytes)?;
             Ok(capacity.minus(1))
         }
         _ => {
@@ -135,17 +126,17 @@ pub fn put_checked_value(
 fn put_non_number(
     array: &mut ListedArray,
     version: Version,
-    form: &ValueForm,
+    form: ValueForm,
     capacity: Capacity,
     token: Lexeme<'_>,
 ) -> Result<(), QuickPassFault>
     requires { token.kind ≡ TokenKind.Number → ⊥ }
     ensures good { OnOk result (token_fault version token.entry.kind token.entry.bytes.now ≡ None) }
-    ensures adds { Appends version form.now token.entry (at array.old capacity) array.new result }
+    ensures adds { Appends version form token.entry (at array.old capacity) array.new result }
 {
     match token.kind {
         TokenKind::Bad => Err(QuickPassFault::Unnamed),
-        _ => Ok(put_token_value(array, version, *form, capacity, token)?),
+        _ => Ok(put_token_value(array, version, form, capacity, token)?),
     }
 }
 

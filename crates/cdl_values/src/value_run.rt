@@ -37,11 +37,11 @@ pub struct UnreadValues<'a> {
 pub fn take_run<'a>(
     array: &mut ListedArray,
     start: UnreadValues<'a>,
-    form: &ValueForm,
+    form: ValueForm,
     due: Due,
 ) -> Result<UnreadValues<'a>, QuickPassFault>
     requires { is_done start.cutter ≡ false }
-    ensures { GoesTo due form.now (place start.entry array.old) array.new result }
+    ensures { GoesTo due form (place start.entry array.old) array.new result }
 {
     match due {
         Due::Separator { takes_fill: true } if start.cutter.is_at_comma() => {
@@ -58,10 +58,10 @@ pub fn take_run<'a>(
 fn take_values<'a>(
     array: &mut ListedArray,
     start: UnreadValues<'a>,
-    form: &ValueForm,
+    form: ValueForm,
 ) -> Result<UnreadValues<'a>, QuickPassFault>
     requires { IsAtComma start.cutter }
-    ensures { TakesTo form.now (place start.entry array.old) array.new result }
+    ensures { TakesTo form (place start.entry array.old) array.new result }
 {
     let version = start.cutter.version();
     let mut unread = start;
@@ -85,15 +85,15 @@ fn take_values<'a>(
 fn take_plain_values<'a>(
     array: &mut ListedArray,
     start: UnreadValues<'a>,
-    form: &ValueForm,
+    form: ValueForm,
 ) -> Result<UnreadValues<'a>, QuickPassFault>
     requires at { IsAtComma start.cutter }
     requires ends { EndsAtScanner start.cutter }
-    ensures { TakesTo form.now (place start.entry array.old) array.new result }
+    ensures { TakesTo form (place start.entry array.old) array.new result }
 {
     match form {
-        ValueForm::Numbers(fill) => take_numbers(array, start, *fill),
-        ValueForm::Rows { len, fill } => take_rows(array, start, *len, *fill),
+        ValueForm::Numbers(fill) => take_numbers(array, start, fill),
+        ValueForm::Rows { len, fill } => take_rows(array, start, len, fill),
         ValueForm::Joined => Ok(start),
     }
 }

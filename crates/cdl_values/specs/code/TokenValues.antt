@@ -11,7 +11,7 @@ use Rattle.cdl_statements.specs.code.Cutters.{SameText, is_done, offset_of, vers
 use Rattle.cdl_statements.specs.Lexemes as lexemes
 use Rattle.cdl_statements.specs.Shapes.{Value, Number, Characters}
 use Rattle.cdl_statements.specs.code.Views.{lexeme_of, lexeme_with}
-use Rattle.cdl_statements.specs.declared.{cutter.Cutter.Cutter, due.Due.Due, fault.CdlKind.CdlKind, lexeme.Lexeme.Lexeme}
+use Rattle.cdl_statements.specs.declared.{cutter.Cutter.Cutter, fault.CdlKind.CdlKind, lexeme.Lexeme.Lexeme}
 use Rattle.cdl_statements.specs.State.{add_constant, in_turn}
 use Rattle.cdl_values.specs.code.Answers.{ContinuesRead, Leaves}
 use Rattle.cdl_values.specs.code.PackedValues.{bytes_of, capacity_after, joined, capacity_minus, packed, value_bytes}
@@ -69,9 +69,6 @@ Packs version form token before after = (rest : List lexemes.Lexeme) → packed_
 -- with an Ok the token's value is added, which leaves such a capacity
 abbrev pub PacksGood : Version → ValueForm → Lexeme → Packing → List ℕ → Result Capacity QuickPassFault → Type 0
 PacksGood version form token before bytes result = IfOk result (λ left. Packs version form token before (at bytes left))
-
-abbrev pub TakesGood : Version → ValueForm → Lexeme → Packing → List ℕ → Result (Capacity × Due) QuickPassFault → Type 0
-TakesGood version form token before bytes result = IfOk result (λ r. Packs version form token before (at bytes r.0))
 
 -- with an Ok the bytes of the token's value are appended
 abbrev pub Appends : Version → ValueForm → Lexeme → Packing → List ℕ → Result ⊤ QuickPassFault → Type 0
