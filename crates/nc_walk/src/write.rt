@@ -8,6 +8,7 @@ mod fills;
 mod part;
 mod record_slab;
 mod records;
+mod slab_fill;
 mod slab_writer;
 
 pub use data::write_data;

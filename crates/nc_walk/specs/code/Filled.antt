@@ -5,6 +5,7 @@ use Rattle.nc_base.specs.declared.{header.Dim.Dim, header.Header.Header, header.
 use Rattle.nc_base.specs.Bytes.{padding_len}
 use Rattle.nc_base.specs.GeneratedFile.{fill_bytes}
 use Rattle.nc_base.specs.Sizes.{is_record_var, slab_size}
+use Rattle.nc_walk.specs.declared.write.slab_fill.SlabFill.{SlabFill}
 
 -- a value twice, four times and eight times
 abbrev pub twice : List ℕ → List ℕ
@@ -24,15 +25,18 @@ repeated unit n = take n (concat (replicate n unit))
 abbrev pub run_bytes : Run → List ℕ
 run_bytes run = run.bytes.now ++ replicate run.filling run.fill
 
+-- the bytes of a slab of a variable, and eight bytes of its fill values
+abbrev pub slab_fill : List Dim → Var → SlabFill
+slab_fill dims var = record { len = slab_size dims var; fill_unit = fill_bytes var 8 }
+
 -- a variable's array as far as it is listed, the bytes of one of its slabs, and eight bytes of its fill values
 pub record ArrayView : Type 0 where
   pub listed : List ℕ
-  pub slab : ℕ
-  pub fill_unit : List ℕ
+  pub slab : SlabFill
 
 -- the listed bytes of a slab, and fill values up to the slab's end and on to the next multiple of four
 abbrev pub filled_slab : ArrayView → List ℕ → List ℕ
-filled_slab array part = part ++ repeated array.fill_unit (array.slab - length part + padding_len array.slab)
+filled_slab array part = part ++ repeated array.slab.fill_unit (array.slab.len - length part + padding_len array.slab.len)
 
 -- the slab with the listed bytes from `start` on: n bytes, or fewer if the list ends
 abbrev pub filled_part : ArrayView → ℕ → ℕ → List ℕ
@@ -40,15 +44,15 @@ filled_part array start n = filled_slab array (take n (drop start array.listed))
 
 -- the slab of record r
 abbrev pub filled_record : ℕ → ArrayView → List ℕ
-filled_record r array = filled_part array (r * array.slab) array.slab
+filled_record r array = filled_part array (r * array.slab.len) array.slab.len
 
 -- the slabs of n records, none of them padded
 abbrev pub filled_slabs : ℕ → ArrayView → List ℕ
-filled_slabs n array = array.listed ++ repeated array.fill_unit (n * array.slab - length array.listed)
+filled_slabs n array = array.listed ++ repeated array.slab.fill_unit (n * array.slab.len - length array.listed)
 
 -- the array of a variable with these listed bytes
 abbrev pub array_view : List Dim → Var → List ℕ → ArrayView
-array_view dims var listed = record { listed = listed; slab = slab_size dims var; fill_unit = fill_bytes var 8 }
+array_view dims var listed = record { listed = listed; slab = slab_fill dims var }
 
 -- the block of a variable; nothing of a record variable
 abbrev pub block_of : List Dim → Var → List ℕ → List ℕ

@@ -2,14 +2,13 @@
 use Rattle.std.specs.Prelude.{ℕ, ◌+◌, List, [], ◌∷◌, ◌++◌, get_or, map, if◌then◌else◌}
 use Rattle.std.specs.List.{flat_map, range_with_len}
 use Rattle.nc_base.specs.declared.{header.Dim.Dim, header.Var.Var}
-use Rattle.nc_base.specs.GeneratedFile.{fill_bytes}
-use Rattle.nc_base.specs.Sizes.{is_record_var, slab_size}
+use Rattle.nc_base.specs.Sizes.{is_record_var}
 use Rattle.nc_walk.specs.declared.write.record_slab.RecordSlab.{RecordSlab}
-use Rattle.nc_walk.specs.code.Filled.{ArrayView, filled_records}
+use Rattle.nc_walk.specs.code.Filled.{ArrayView, filled_records, slab_fill}
 
 -- the slab of the variable with index v
 abbrev pub record_slab : ℕ → List Dim → Var → RecordSlab
-record_slab v dims var = record { var_index = v; len = slab_size dims var; fill_unit = fill_bytes var 8 }
+record_slab v dims var = record { var_index = v; slab = slab_fill dims var }
 
 -- those of the record variables among these; the first variable has index v
 abbrev pub record_slabs : ℕ → List Dim → List Var → List RecordSlab
@@ -18,7 +17,7 @@ record_slabs v dims [] = []
 
 -- the array of a slab's variable, among those of all variables
 abbrev pub array_of : List (List ℕ) → RecordSlab → ArrayView
-array_of arrays slab = record { listed = get_or arrays slab.var_index []; slab = slab.len; fill_unit = slab.fill_unit }
+array_of arrays slab = record { listed = get_or arrays slab.var_index []; slab = slab.slab }
 
 -- record r of these slabs
 abbrev pub record_in : List RecordSlab → List (List ℕ) → ℕ → List ℕ

@@ -6,6 +6,7 @@ ghost use Rattle.nc_base.specs.Headers.{IsSound};
 ghost use Rattle.nc_base.specs.Sizes.{slab_limit, slab_size};
 ghost use Rattle.nc_walk.specs.code.Filled.{block_of, blocks_of};
 
+use super::slab_fill::SlabFill;
 use super::slab_writer::SlabWriter;
 use devices::{Sink, WriteFailed};
 use nc_base::{Dim, Header, ListedArray, Var, is_record_var};
@@ -44,5 +45,6 @@ fn put_block<W: Sink>(
     if is_record_var(dims, var) {
         return Ok(());
     }
-    SlabWriter::of(dims, var, listed).put_block(sink)
+    let slab = SlabFill::of(dims, var);
+    SlabWriter { listed, slab }.put_block(sink)
 }

@@ -1,13 +1,12 @@
 //! The slabs of a record, found once before the records are written.
 
-ghost use Rattle.std.specs.Prelude.{◌≡◌, ◌≤◌, ◌<◌, IfOk, length};
+ghost use Rattle.std.specs.Prelude.{◌≡◌, ◌<◌, IfOk, length};
 ghost use Rattle.nc_base.specs.Headers.{IsSound};
-ghost use Rattle.nc_base.specs.Sizes.{slab_limit, slab_size};
-ghost use Rattle.nc_walk.specs.code.RecordSlabs.{array_of, record_slab, record_slabs};
+ghost use Rattle.nc_walk.specs.code.RecordSlabs.{array_of, record_slabs};
 
-use super::fills::fill_unit;
+use super::slab_fill::SlabFill;
 use super::slab_writer::SlabWriter;
-use nc_base::{Dim, Header, ListedArray, Sequence, Var, is_record_var, slab_len};
+use nc_base::{Header, ListedArray, Sequence, is_record_var};
 use std::alloc::{AllocError, Global};
 
 /// The slab that a record variable has in each record: of which variable, how long, and with which fill value.
@@ -15,10 +14,8 @@ use std::alloc::{AllocError, Global};
 pub struct RecordSlab {
     /// The index of the variable.
     var_index: usize,
-    /// The number of bytes of the slab, without padding.
-    len: u64,
-    /// Eight bytes of the variable's fill value: the value as often as it fits.
-    fill_unit: [u8; 8],
+    /// Its length, and what fills it up.
+    slab: SlabFill,
 }
 
 /// Returns the slabs of a record, one for each record variable, in header order. Needs a sound header (`nc_base::Header::sound`).
@@ -38,26 +35,14 @@ pub fn record_slabs(alloc: Global, header: &Header) -> Result<Sequence<RecordSla
     let mut slabs = Sequence::new(alloc);
     for v in 0..vars.len() {
         if is_record_var(dims, &vars[v]) {
-            slabs.push(RecordSlab::of(v, dims, &vars[v]))?;
+            let slab = SlabFill::of(dims, &vars[v]);
+            slabs.push(RecordSlab { var_index: v, slab })?;
         }
     }
     Ok(slabs)
 }
 
 impl RecordSlab {
-    /// Returns the slab that the record variable `var` has in each record. `var_index` is its index in the header, and `dims` has the
-    /// header's dimensions. Needs a slab of at most 2^48 bytes.
-    fn of(var_index: usize, dims: &[Dim], var: &Var) -> RecordSlab
-        requires { slab_size dims.now var.now ≤ slab_limit }
-        ensures { result ≡ record_slab var_index dims.now var.now }
-    {
-        RecordSlab {
-            var_index,
-            len: slab_len(dims, var.dimids.as_slice(), var.ty).unwrap(),
-            fill_unit: fill_unit(var),
-        }
-    }
-
     /// Returns a writer of the array of the slab's variable. `arrays` has the listed values of all variables, in header order. Needs an
     /// array at the variable's index.
     pub(super) fn array_writer<'a>(&self, arrays: &'a [ListedArray]) -> SlabWriter<'a>
@@ -66,8 +51,7 @@ impl RecordSlab {
     {
         SlabWriter {
             listed: &arrays[self.var_index],
-            slab: self.len,
-            fill_unit: self.fill_unit,
+            slab: self.slab,
         }
     }
 }

@@ -1,14 +1,14 @@
 //! A variable's array, written slab by slab.
 
-ghost use Rattle.std.specs.Prelude.{◌≡◌, ◌≤◌};
+ghost use Rattle.std.specs.Prelude.{◌≡◌};
 ghost use Rattle.devices.specs.code.SinkWrites.{Wrote};
-ghost use Rattle.nc_base.specs.Sizes.{slab_limit, slab_size};
-ghost use Rattle.nc_walk.specs.code.Filled.{ArrayView, array_view, filled_part, filled_record, filled_slab, filled_slabs};
+ghost use Rattle.nc_walk.specs.code.Filled.{ArrayView, filled_part, filled_record, filled_slab, filled_slabs};
 
-use super::fills::{fill_unit, put_fills};
+use super::fills::put_fills;
 use super::part::put_listed_bytes;
+use super::slab_fill::SlabFill;
 use devices::{Sink, WriteFailed};
-use nc_base::{Dim, ListedArray, Var, padding_len, slab_len};
+use nc_base::{ListedArray, padding_len};
 use std::marker::Model;
 
 /// A writer of a variable's array, a slab at once or all of it. In place of the values that the array lacks at its end, it writes the fill
@@ -17,32 +17,17 @@ use std::marker::Model;
 pub(super) struct SlabWriter<'a> {
     /// The bytes of the values that are listed.
     pub(super) listed: &'a ListedArray,
-    /// The number of bytes of a slab, without padding.
-    pub(super) slab: u64,
-    /// Eight bytes of the variable's fill value: the value as often as it fits.
-    pub(super) fill_unit: [u8; 8],
+    /// The length of its slabs, and what fills them up.
+    pub(super) slab: SlabFill,
 }
 
 impl<'a> Model for SlabWriter<'a> {
     ghost Value = { ArrayView };
 
-    ghost view = { λ array. record { listed = array.listed.now; slab = array.slab; fill_unit = array.fill_unit } };
+    ghost view = { λ array. record { listed = array.listed.now; slab = array.slab } };
 }
 
 impl<'a> SlabWriter<'a> {
-    /// Returns the writer of a variable. `dims` has the dimensions of the header, and `listed` the variable's listed values. Needs a slab
-    /// of at most 2^48 bytes.
-    pub(super) fn of(dims: &[Dim], var: &Var, listed: &'a ListedArray) -> SlabWriter<'a>
-        requires { slab_size dims.now var.now ≤ slab_limit }
-        ensures { result ≡ array_view dims.now var.now listed.now }
-    {
-        SlabWriter {
-            listed,
-            slab: slab_len(dims, var.dimids.as_slice(), var.ty).unwrap(),
-            fill_unit: fill_unit(var),
-        }
-    }
-
     /// Writes all listed bytes, then fill values up to the end of the slab, which is the whole array, and on to the end of its padding. It
     /// is for a variable that isn't a record variable. Errs if the sink fails.
     pub(super) fn put_block<W: Sink>(&self, sink: &mut W) -> Result<(), WriteFailed>
@@ -56,7 +41,7 @@ impl<'a> SlabWriter<'a> {
     pub(super) fn put_record<W: Sink>(&self, sink: &mut W, r: u64) -> Result<(), WriteFailed>
         ensures { Wrote W.view sink.old sink.new (filled_record r self.now) result }
     {
-        let len = self.slab as u128;
+        let len = self.slab.len as u128;
         self.put_slab(sink, r as u128 * len, len)
     }
 
@@ -68,8 +53,8 @@ impl<'a> SlabWriter<'a> {
     {
         let listed = self.listed.len();
         put_listed_bytes(sink, self.listed, 0, listed)?;
-        let all = records as u128 * self.slab as u128;
-        put_fills(sink, self.fill_unit, all.saturating_sub(listed))
+        let all = records as u128 * self.slab.len as u128;
+        put_fills(sink, self.slab.fill_unit, all.saturating_sub(listed))
     }
 
     /// Writes a slab and its padding: `len` listed bytes from the offset `start` of the array on, or those up to the end of the listed
@@ -80,8 +65,8 @@ impl<'a> SlabWriter<'a> {
     {
         put_listed_bytes(sink, self.listed, start, len)?;
         let listed = self.listed.len().saturating_sub(start).min(len);
-        let lacking = (self.slab as u128).saturating_sub(listed);
-        let padding = padding_len(self.slab as u128);
-        put_fills(sink, self.fill_unit, lacking + padding as u128)
+        let lacking = (self.slab.len as u128).saturating_sub(listed);
+        let padding = padding_len(self.slab.len as u128);
+        put_fills(sink, self.slab.fill_unit, lacking + padding as u128)
     }
 }

@@ -8,7 +8,7 @@ returns-in_err-put_listed_bytes g c =
     let held : List ℕ = array.listed.now in
     let p = err_from_is_err_and c.from_residual.result c.from_residual.ensures.1 in
     let all : held ≡ take c.len-listed.result held = sym (take_all c.len-listed.result held (omega (arith, c.len-listed.ensures))) in
-    let whole = ap (filled_slabs n) (sym c.self.view_is) ∙ ap (λ (b : List ℕ). b ++ repeated array.fill_unit (n * array.slab - length held)) all in
+    let whole = ap (filled_slabs n) (sym c.self.view_is) ∙ ap (λ (b : List ℕ). b ++ repeated array.slab.fill_unit (n * array.slab.len - length held)) all in
     rw p.1 (up-partway _ _ _ _ _ _ _ whole (up-start _ _) c.in_err-put_listed_bytes.ensures)
 
 pub returns : goal.returns
