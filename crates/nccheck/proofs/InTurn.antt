@@ -26,7 +26,7 @@ either_map false f g x = g refl x
 module _ {P : Type 0} (o : Openings P) (a : Asked) where
   runs_then : (items others : List Item) (old mid new : State P) (done more : List Answer) → RunsOver o a items old mid done
       → has_ended done ≡ false → RunsOver o a others mid new more → RunsOver o a (items ++ others) old new (done ++ more)
-  runs_then [] others old mid new done more r none next = rw (r.none, ← r.same) next
+  runs_then [] others old mid new done more r none next = rw (r.1, ← r.0) next
   runs_then (item ∷ items) others old mid new done more r none next = record {
     mid = r.mid;
     answer = r.answer;
@@ -40,7 +40,7 @@ module _ {P : Type 0} (o : Openings P) (a : Asked) where
   -- after a fault nothing else is checked
   runs_stop : (items others : List Item) (old new : State P) (done : List Answer) → RunsOver o a items old new done
       → has_ended done ≡ true → RunsOver o a (items ++ others) old new done
-  runs_stop [] others old new done r ended = absurd (grind (arith, r.none, ended))
+  runs_stop [] others old new done r ended = absurd (grind (arith, r.1, ended))
   runs_stop (item ∷ items) others old new done r ended = record {
     mid = r.mid;
     answer = r.answer;
@@ -65,7 +65,7 @@ ended_at t (Err fault) ends = (rw ends refl, grind arith)
 
 module _ {P : Type 0} {o : Openings P} {a : Asked} where
   pub counts_none : (now : State P) (tally : Tally) → Counts o a [] now now tally (Some tally)
-  counts_none now tally = record { answers = []; runs = record { same = refl; none = refl }; counts = (refl, refl) }
+  counts_none now tally = record { answers = []; runs = (refl, refl); counts = (refl, refl) }
 
   pub counts_one : {item : Item} {old new : State P} {tally : Tally} {after : Option Tally} (answer : Answer)
       → ChecksItem o a item old new answer
@@ -77,7 +77,7 @@ module _ {P : Type 0} {o : Openings P} {a : Asked} where
       answer = answer;
       others = [];
       first = checks;
-      goes_on = either (ends_run answer) (λ ends. record { same = refl; none = refl }) (λ on. record { same = refl; none = refl });
+      goes_on = either (ends_run answer) (λ ends. (refl, refl)) (λ on. (refl, refl));
       all = refl;
     };
     counts = counts;

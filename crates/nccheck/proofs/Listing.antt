@@ -1,5 +1,5 @@
 -- A run over a list whose bytes come part by part.
-use Rattle.nccheck.proofs.Prelude.{length-append, length-take-le, Bytes, HasFailed, ReaderView, Asked, Broken, Item, items_after, items_in, last_items, ListEnd, Path, Unread, Whole, MatchBool, Fails, has_ended, Openings, ReadsList, ReadsNothing, RunsFiles, State, Writes, counted, no_files, status_of, summary_line, Counts, CountsAll, CountsList, Gives, Takes, TakesItems, Tally, ◌≡◌, ℕ, ◌+◌, ◌<◌, ◌≤◌, ◌^◌, List, [], ◌∷◌, ◌++◌, ◌⊎◌, codes, inl, inr, refl, sym, ap, ◌∙◌, append_assoc, append-nil, length, take, ◌&&◌, not, map, Bool, true, false, Option, Some, None, IfSome, Err, arith, unwrap_or}
+use Rattle.nccheck.proofs.Prelude.{length-append, length-take-le, Bytes, HasFailed, ReaderView, Asked, Broken, Item, items_after, items_in, last_items, ListEnd, Path, Unread, Whole, MatchBool, Fails, has_ended, Openings, ReadsList, RunsFiles, State, Writes, counted, no_files, status_of, summary_line, Counts, CountsAll, CountsList, Gives, Takes, TakesItems, Tally, ◌≡◌, ℕ, ◌+◌, ◌<◌, ◌≤◌, ◌^◌, List, [], ◌∷◌, ◌++◌, ◌⊎◌, codes, inl, inr, refl, sym, ap, ◌∙◌, append_assoc, append-nil, length, take, ◌&&◌, not, map, Bool, true, false, Option, Some, None, IfSome, Err, arith, unwrap_or}
 use Rattle.std.specs.Io.KnownBytes.{Consumes}
 use Rattle.std.proofs.KnownBytes.{Consumes-all, Consumes-kept, Consumes-nil, Consumes-trans}
 use Rattle.devices.specs.Uses.{Use}
@@ -36,12 +36,12 @@ gives_path begun None = record { others = λ end more. items_after end [] more; 
 
 -- a list of which nothing was read
 untouched : (reads_paths_from_input : Bool) (input : ReaderView)
-    → (items : List Item) × MatchBool reads_paths_from_input (ReadsList input input items) (ReadsNothing input input items)
+    → (items : List Item) × MatchBool reads_paths_from_input (ReadsList input input items) ((input ≡ input) × (items ≡ []))
 untouched true input =
     let all = unwrap_or input.remaining [] in
     let read = with_rest input.remaining input.remaining [] (Consumes-nil input.remaining) in
     (items_in Whole all, record { bytes = all; end = Whole; has = (read, refl); is = refl })
-untouched false input = ([], record { same = refl; none = refl })
+untouched false input = ([], (refl, refl))
 
 module _ {P : Type 0} (o : Openings P) (a : Asked) where
   -- what was read so far
@@ -195,7 +195,7 @@ module _ {P : Type 0} {o : Openings P} {a : Asked} where
       → Counts o a (map Path a.files) old new no_files after → CountsAll o a input input old new after
   all_words none c = record {
     items = [];
-    reads = rw none (record { same = refl; none = refl });
+    reads = rw none (refl, refl);
     counts = rw (append-nil (map Path a.files)) c;
   }
 
@@ -218,7 +218,7 @@ module _ {P : Type 0} {o : Openings P} {a : Asked} where
     runs = c.counts.runs;
     opener = refl;
     ends = either (a.has_summary && not (has_ended c.counts.answers)) (λ yes. absurd (grind (arith, yes, c.counts.counts.0)))
-        (λ no. record { same = refl; stays = sym c.counts.counts.1 });
+        (λ no. (refl, sym c.counts.counts.1));
   }
 
   -- none, where it isn't asked for
@@ -232,7 +232,7 @@ module _ {P : Type 0} {o : Openings P} {a : Asked} where
     mid = new;
     runs = c.counts.runs;
     opener = refl;
-    ends = rw none (record { same = refl; stays = is ∙ ap status_of c.counts.counts.0 });
+    ends = rw none (refl, is ∙ ap status_of c.counts.counts.0);
   }
 
   pub runs_counted : {input : Use ReaderView} {old mid new : State P} {tally : Tally} {status : ℕ}

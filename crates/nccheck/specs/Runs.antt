@@ -135,11 +135,6 @@ ends_run (Err OutOfMemory) = true
 ends_run (Err WriteFailed) = true
 ends_run answer = false
 
--- nothing was checked
-pub record ChecksNone {P : Type 0} (old new : State P) (answers : List Answer) : Type 0 where
-  pub same : new ≡ old
-  pub none : answers ≡ []
-
 -- the item was checked, and then, unless the run ended there, what `Others` says
 pub record ChecksFirst {P : Type 0} (o : Openings P) (a : Asked) (item : Item) (old new : State P) (answers : List Answer)
     (Others : State P → State P → List Answer → Type 0) : Type 0 where
@@ -147,12 +142,12 @@ pub record ChecksFirst {P : Type 0} (o : Openings P) (a : Asked) (item : Item) (
   pub answer : Answer
   pub others : List Answer
   pub first : ChecksItem o a item old mid answer
-  pub goes_on : MatchBool (ends_run answer) (ChecksNone mid new others) (Others mid new others)
+  pub goes_on : MatchBool (ends_run answer) ((new ≡ mid) × (others ≡ [])) (Others mid new others)
   pub all : answers ≡ answer ∷ others
 
 -- the items were checked in turn, with these answers, up to one whose fault ends the run
 abbrev pub RunsOver : {P : Type 0} → Openings P → Asked → List Item → State P → State P → List Answer → Type 0
-RunsOver o a [] old new answers = ChecksNone old new answers
+RunsOver o a [] old new answers = (new ≡ old) × (answers ≡ [])
 RunsOver o a (item ∷ items) old new answers = ChecksFirst o a item old new answers (RunsOver o a items)
 
 -- a fault has ended the run
@@ -165,11 +160,6 @@ abbrev pub Writes : {P : Type 0} → Bytes → State P → State P → ℕ → �
 Writes text mid new before status =
     (Appended mid.out new.out text × (new.err ≡ mid.err) × (status ≡ before))
     ⊎ (FailedPartway mid.out new.out text × IsTold mid.err new.err flush_line × (status ≡ 2))
-
--- nothing was written
-pub record WritesNothing {P : Type 0} (mid new : State P) (before status : ℕ) : Type 0 where
-  pub same : new ≡ mid
-  pub stays : status ≡ before
 
 -- ---- the list on standard input
 
@@ -186,23 +176,18 @@ pub record ReadsList (old new : ReaderView) (items : List Item) : Type 0 where
   pub has : HasBytes end old new bytes
   pub is : items ≡ items_in end bytes
 
--- it isn't touched
-pub record ReadsNothing (old new : ReaderView) (items : List Item) : Type 0 where
-  pub same : new ≡ old
-  pub none : items ≡ []
-
 -- all paths of the words, and then the items of the list if it is asked for, were checked in turn, up to one whose fault ends the run; if
 -- there was none, and it is asked for, a line says what came of them, or a prefix of it if standard output fails
 pub record RunsFiles {P : Type 0} (o : Openings P) (a : Asked) (input : Use ReaderView) (old new : State P) (status : ℕ) : Type 0 where
   pub listed : List Item
-  pub reads : MatchBool a.reads_paths_from_input (ReadsList input.before input.after listed) (ReadsNothing input.before input.after listed)
+  pub reads : MatchBool a.reads_paths_from_input (ReadsList input.before input.after listed) ((input.after ≡ input.before) × (listed ≡ []))
   pub answers : List Answer
   pub mid : State P
   pub runs : RunsOver o a (map Path a.files ++ listed) old mid answers
   pub opener : new.opener ≡ mid.opener
   pub ends : MatchBool (a.has_summary && not (has_ended answers))
       (Writes (summary_line (tally_of answers)) mid new (status_of (tally_of answers)) status)
-      (WritesNothing mid new (status_of (tally_of answers)) status)
+      ((new ≡ mid) × (status ≡ status_of (tally_of answers)))
 
 -- ---- the whole run
 

@@ -1,10 +1,10 @@
 -- For contracts. The items of a run, counted, and the bytes of a list, taken one after the other.
-use Rattle.std.specs.Prelude.{◌≡◌, MatchBool, true, false, List, ◌++◌, fold, map, Option, Some, None}
+use Rattle.std.specs.Prelude.{◌≡◌, MatchBool, true, false, List, [], ◌++◌, fold, map, Option, Some, None}
 use Rattle.nc_base.specs.Bytes.{Bytes}
 use Rattle.devices.specs.Readers.{ReaderView}
 use Rattle.nccheck.specs.CommandLine.{Asked}
 use Rattle.nccheck.specs.PathLists.{Item, items_after, ListEnd, Path}
-use Rattle.nccheck.specs.Runs.{has_ended, Openings, ReadsList, ReadsNothing, RunsOver, State}
+use Rattle.nccheck.specs.Runs.{has_ended, Openings, ReadsList, RunsOver, State}
 use Rattle.nccheck.specs.Tallies.{Answer, counted, no_files, status_of}
 use Rattle.nccheck.specs.declared.tally.Tally.{Tally}
 
@@ -52,5 +52,5 @@ pub record CountsList {P : Type 0} (o : Openings P) (a : Asked) (first last : Re
 pub record CountsAll {P : Type 0} (o : Openings P) (a : Asked) (first last : ReaderView) (old new : State P) (after : Option Tally)
     : Type 0 where
   pub items : List Item
-  pub reads : MatchBool a.reads_paths_from_input (ReadsList first last items) (ReadsNothing first last items)
+  pub reads : MatchBool a.reads_paths_from_input (ReadsList first last items) ((last ≡ first) × (items ≡ []))
   pub counts : Counts o a (map Path a.files ++ items) old new no_files after
