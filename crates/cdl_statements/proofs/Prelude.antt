@@ -1,7 +1,7 @@
 -- The names that proofs of this crate cite from elsewhere, passed on from one place.
 pub use Rattle.std.proofs.Common.{ℕ, suc, List, [], ◌∷◌, ◌++◌, arith, All, take, drop, ◌≡◌, Bool, true, false, refl, ◌∙◌, if◌then◌else◌, rules, ap, Option, None, Some, is_some, sym, is_none, ℤ, ◌&&◌, ◌==◌, append_assoc, map, ◌<◌, slice_index, ◌/◌, ◌%◌, ◌≤◌, nat_le, length, filter, IsTrue, Result, Err, ◌-◌, subst, IfSome, position, Ok, replicate, ◌*◌, ◌||◌, not, nat_lt, subst₂, ◌+◌}
 pub use Rattle.std.specs.Prelude.{⊤}
-pub use Rattle.cdl_statements.specs.Lexemes.{Lexeme, is_end_kind, is_mark, is_mark_kind, is_opening_kind, is_word_kind, lexeme}
+pub use Rattle.cdl_statements.specs.Lexemes.{Lexeme, is_mark, is_mark_kind, is_opening_kind, is_word_kind, lexeme}
 unfoldable pub use Rattle.cdl_statements.specs.Lexemes.{name_of}
 pub use Rattle.cdl_statements.specs.Shapes.{Attribute, Close, DeclareDimensions, Dimension, End, Listed, Enter, Open, Statement, DeclareVariables, Value, Variable, after_member, assigned, at_end, attribute_or_mark, both, constant, constant_of, constants, dimension, dimensions, first_bad, if_so, in_parentheses, is_later, length_of, other_statement, section_mark, token_fault, variables}
 pub use Rattle.cdl_statements.specs.Pieces.{role_in, role_of, section_of, step, with_first, statements}
@@ -24,8 +24,8 @@ pub use Rattle.cdl_tokens.proofs.Words.{and_false}
 unfoldable pub use Rattle.cdl_tokens.specs.Escapes.{word_value}
 pub use Rattle.cdl_tokens.specs.Numerals.{number}
 unfoldable pub use Rattle.cdl_tokens.specs.Numerals.{numeral, parts}
-pub use Rattle.cdl_tokens.specs.Tokens.{raw}
-pub use Rattle.cdl_tokens.specs.code.Scanners.{followed, is_end, left}
+pub use Rattle.cdl_tokens.specs.Tokens.{is_end, raw}
+pub use Rattle.cdl_tokens.specs.code.Scanners.{followed, left}
 pub use Rattle.cdl_tokens.specs.declared.{token.Token.Token, token.TokenKind.TokenKind}
 unfoldable pub use Rattle.nc_base.specs.Escapes.{is_reserved}
 pub use Rattle.nc_base.specs.declared.version.Version.{Version}

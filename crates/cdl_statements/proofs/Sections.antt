@@ -1,5 +1,5 @@
 -- Statements: the table of due tokens says whether a piece has its shape, and what it says stands in its tokens.
-use Rattle.cdl_statements.proofs.Prelude.{◌≡◌, ℕ, Bool, true, false, List, [], ◌∷◌, drop, refl, ap, ◌∙◌, Option, None, Some, if◌then◌else◌, is_some, arith, rules, option_map, is_reserved, Version, values, next_if, next, completes, is_name, is_after, opens_section_after, word_value, Lexeme, is_mark, is_word_kind, is_opening_kind, is_end_kind, name_of, Value, Statement, Attribute, Listed, Close, DeclareDimensions, DeclareVariables, Enter, End, Open, first_bad, constants, dimensions, assigned, section_mark, attribute_or_mark, other_statement, shape, at_end, both, if_so, is_later, section_of, dimensions_said, attribute_said, mark_said, variable_said, statement_said, Due, Section, Unopened, Globals, Dimensions, Variables, Values, Ended, Closed}
+use Rattle.cdl_statements.proofs.Prelude.{◌≡◌, ℕ, Bool, true, false, List, [], ◌∷◌, drop, refl, ap, ◌∙◌, Option, None, Some, if◌then◌else◌, is_some, arith, rules, option_map, is_reserved, Version, values, next_if, next, completes, is_name, is_after, opens_section_after, word_value, Lexeme, is_mark, is_word_kind, is_end, is_opening_kind, name_of, Value, Statement, Attribute, Listed, Close, DeclareDimensions, DeclareVariables, Enter, End, Open, first_bad, constants, dimensions, assigned, section_mark, attribute_or_mark, other_statement, shape, at_end, both, if_so, is_later, section_of, dimensions_said, attribute_said, mark_said, variable_said, statement_said, Due, Section, Unopened, Globals, Dimensions, Variables, Values, Ended, Closed}
 use Rattle.cdl_statements.specs.declared.due.Due.TheVariants as dues
 use Rattle.cdl_statements.proofs.Dues.{fine_on, never_completes, name_is, due_for, never_due, end_due, map_due, only_due, both_ways}
 use Rattle.cdl_statements.proofs.Listing.{constants_due}
@@ -97,7 +97,7 @@ shape_is v Values [] good = refl
 shape_is v Closed [] good = refl
 shape_is v Ended [] good = refl
 shape_is v Unopened (l ∷ ls) good = only_due (is_opening_kind l.kind) dues.Nothing ls _ _ (λ e. end_due ls Open)
-shape_is v Closed (l ∷ ls) good = only_due (is_end_kind l.kind) dues.Nothing ls _ _ (λ e. end_due ls End)
+shape_is v Closed (l ∷ ls) good = only_due (is_end l.kind) dues.Nothing ls _ _ (λ e. end_due ls End)
 shape_is v Ended (l ∷ ls) good = never_due ls End
 shape_is v Globals (l ∷ ls) good = open_due v Globals l ls _ _ (fine_on v l ls good) (mark_due Globals l ls)
 shape_is v Dimensions (l ∷ ls) good = open_due v Dimensions l ls _ _ (fine_on v l ls good) (dimensions_said_due v l ls good)

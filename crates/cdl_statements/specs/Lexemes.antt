@@ -20,10 +20,6 @@ abbrev pub is_opening_kind : TokenKind → Bool
 is_opening_kind kinds.Opening = true
 is_opening_kind _ = false
 
-abbrev pub is_end_kind : TokenKind → Bool
-is_end_kind kinds.End = true
-is_end_kind _ = false
-
 abbrev pub is_word_kind : TokenKind → Bool
 is_word_kind kinds.Word = true
 is_word_kind _ = false

@@ -4,9 +4,10 @@ use Rattle.std.specs.Str.{byte}
 use Rattle.std.specs.Option.{option_map, option_and_then, option_or}
 use Rattle.nc_base.specs.Bytes.{Bytes}
 use Rattle.cdl_tokens.specs.Escapes.{inner, string_value}
-use Rattle.cdl_statements.specs.Lexemes.{Lexeme, is_mark, is_word, is_word_kind, is_opening_kind, is_end_kind, name_of}
+use Rattle.cdl_statements.specs.Lexemes.{Lexeme, is_mark, is_word, is_word_kind, is_opening_kind, name_of}
 use Rattle.cdl_statements.specs.Pieces.{section_of}
 use Rattle.cdl_tokens.specs.Numerals.{TypedNumber, numeral}
+use Rattle.cdl_tokens.specs.Tokens.{is_end}
 use Rattle.cdl_tokens.specs.declared.token.TokenKind.{TokenKind}
 use Rattle.cdl_tokens.specs.declared.token.TokenKind.TheVariants as kinds
 use Rattle.cdl_statements.specs.declared.{fault.CdlKind.CdlKind, section.Section.Section}
@@ -166,7 +167,7 @@ other_statement v _ l ls = None
 unfoldable pub shape : Version → Section → List Lexeme → Option Statement
 shape v section [] = None
 shape v Unopened (l ∷ ls) = if_so (is_opening_kind l.kind) (at_end Open ls)
-shape v Closed (l ∷ ls) = if_so (is_end_kind l.kind) (at_end End ls)
+shape v Closed (l ∷ ls) = if_so (is_end l.kind) (at_end End ls)
 shape v Ended (l ∷ ls) = None
 shape v Values (l ∷ ls) = if is_mark (byte "}") l then at_end Close ls else assigned v true Listed (l ∷ ls)
 shape v section (l ∷ ls) =

@@ -1,7 +1,7 @@
 //! The shapes of statements, token by token.
 
 ghost use Rattle.std.specs.Prelude.{◌≡◌};
-ghost use Rattle.cdl_statements.specs.Lexemes.{is_end_kind, is_opening_kind};
+ghost use Rattle.cdl_statements.specs.Lexemes.{is_opening_kind};
 
 use crate::lexeme::Lexeme;
 use crate::section::Section;
@@ -117,7 +117,7 @@ impl Due {
     {
         match section {
             Section::Unopened => Due::next_if(is_opening(token.kind), Due::Nothing),
-            Section::Closed => Due::next_if(is_end(token.kind), Due::Nothing),
+            Section::Closed => Due::next_if(token.kind.is_end(), Due::Nothing),
             Section::Ended => Due::Never,
             _ if token.is_mark(b'}') => Due::Nothing,
             Section::Values => Due::next_if(token.is_name(), Due::Equals { takes_fill: true }),
@@ -210,11 +210,4 @@ fn is_opening(kind: TokenKind) -> bool
     ensures { result ≡ is_opening_kind kind }
 {
     matches!(kind, TokenKind::Opening)
-}
-
-/// Returns true if a token of this kind is the end of the text.
-fn is_end(kind: TokenKind) -> bool
-    ensures { result ≡ is_end_kind kind }
-{
-    matches!(kind, TokenKind::End)
 }

@@ -43,21 +43,21 @@ impl<'a> Lexeme<'a> {
     pub fn is_word(self, word: &[u8]) -> bool
         ensures { result ≡ is_word word.now (lexeme_of self.entry) }
     {
-        is_word_kind(self.kind) && self.bytes == word
+        self.is_any_word() && self.bytes == word
     }
 
     /// Returns true if the token is any word. Unlike [`is_name`](Lexeme::is_name), it counts reserved words, too.
     pub fn is_any_word(self) -> bool
         ensures { result ≡ is_word_kind self.entry.kind }
     {
-        is_word_kind(self.kind)
+        matches!(self.kind, TokenKind::Word)
     }
 
     /// Returns true if the token is a name: a word that isn't an unescaped reserved word, such as `dimensions` or `int`.
     pub fn is_name(self) -> bool
         ensures { result ≡ is_name (lexeme_of self.entry) }
     {
-        is_word_kind(self.kind) && !is_reserved(self.bytes)
+        self.is_any_word() && !is_reserved(self.bytes)
     }
 
     /// Returns true if the token is a constant: a number, which may be a bad one, a string or, if `takes_fill`, an unescaped `_`, which
@@ -117,13 +117,6 @@ impl<'a> Lexeme<'a> {
             None => false,
         }
     }
-}
-
-/// Returns true if a token of this kind is a word.
-fn is_word_kind(kind: TokenKind) -> bool
-    ensures { result ≡ is_word_kind kind }
-{
-    matches!(kind, TokenKind::Word)
 }
 
 /// Returns true if a token of this kind is a mark: one of `: ; = , ( ) }`.

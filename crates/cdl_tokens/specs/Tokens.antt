@@ -1,9 +1,13 @@
 -- Definition. The tokens of a text.
-use Rattle.std.specs.Prelude.{ℕ, zero, suc, Bool, true, List, [], ◌∷◌, ◌+◌, ◌-◌, ◌&&◌, ◌==◌, take, drop, count_by, Option, None, Some, is_none}
+use Rattle.std.specs.Prelude.{ℕ, zero, suc, Bool, true, false, List, [], ◌∷◌, ◌+◌, ◌-◌, ◌&&◌, ◌==◌, take, drop, count_by, Option, None, Some, is_none}
 use Rattle.std.specs.Str.{byte}
 use Rattle.nc_base.specs.Bytes.{Bytes}
 use Rattle.cdl_tokens.specs.Scan.{scan}
 use Rattle.cdl_tokens.specs.declared.{token.Token.Token, token.TokenKind.TokenKind, token.TokenKind.TheVariants.End}
+
+abbrev pub is_end : TokenKind → Bool
+is_end End = true
+is_end _ = false
 
 abbrev pub raw : Bytes → Token → Bytes
 raw text t = take (t.past - t.first) (drop t.first text)

@@ -3,7 +3,7 @@
 ghost use Rattle.std.specs.Prelude.{◌≡◌, ◌+◌, ◌≤◌, ◌<◌, ◌==◌, length, IfSome, count_by, drop, slice_index, take, nat_lt, false, true, Some, None};
 ghost use Rattle.cdl_tokens.specs.code.PlainTokens.{IsComma, IsListed, IsPlainString, IsUnderscore};
 ghost use Rattle.cdl_tokens.specs.Scan.{gap, scan, token};
-ghost use Rattle.cdl_tokens.specs.Tokens.{line_at, raw, tokens};
+ghost use Rattle.cdl_tokens.specs.Tokens.{is_end, line_at, raw, tokens};
 
 use crate::bytes::{byte_at, is_blank, is_digit, is_mark};
 use crate::numeral::Numeral;
@@ -46,7 +46,7 @@ pub struct ListedNumber {
 
 impl<'a> Scanner<'a> {
     ghost use Rattle.std.specs.Prelude.{◌∷◌};
-    ghost use Rattle.cdl_tokens.specs.code.Scanners.{comma_before, followed, is_end, is_token, left, offset_of, text_of, token_before};
+    ghost use Rattle.cdl_tokens.specs.code.Scanners.{comma_before, followed, is_token, left, offset_of, text_of, token_before};
 
     /// Creates a scanner at the start of a text.
     pub fn new(text: &'a [u8]) -> Scanner<'a>

@@ -1,7 +1,7 @@
 //! Tokens.
 
 ghost use Rattle.std.specs.Prelude.{◌≡◌};
-ghost use Rattle.cdl_tokens.specs.Tokens.{raw};
+ghost use Rattle.cdl_tokens.specs.Tokens.{is_end, raw};
 
 use crate::bytes::first_bytes;
 
@@ -25,8 +25,6 @@ pub enum TokenKind {
 }
 
 impl TokenKind {
-    ghost use Rattle.cdl_tokens.specs.code.Scanners.{is_end};
-
     /// Returns true for the kind `End`, that of the token at the end of the text.
     pub fn is_end(self) -> bool
         ensures { result ≡ is_end self }

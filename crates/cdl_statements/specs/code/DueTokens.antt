@@ -1,12 +1,13 @@
 -- For contracts. Which token of a statement is due, token by token.
 use Rattle.std.specs.Prelude.{Bool, true, false, List, [], ◌∷◌, ◌&&◌, ◌||◌, if◌then◌else◌, not, codes, nat_lt, Option, None, Some}
 use Rattle.nc_base.specs.Escapes.{is_reserved}
-use Rattle.cdl_statements.specs.Lexemes.{Lexeme, is_mark, is_word, is_word_kind, is_opening_kind, is_end_kind}
+use Rattle.cdl_statements.specs.Lexemes.{Lexeme, is_mark, is_word, is_word_kind, is_opening_kind}
 use Rattle.cdl_statements.specs.Pieces.{section_of}
 use Rattle.cdl_statements.specs.Shapes.{section_number}
 use Rattle.cdl_statements.specs.declared.{due.Due.Due, section.Section.Section}
 use Rattle.cdl_statements.specs.declared.due.Due.TheVariants.{First, DataName, Colon, AttributeName, Equals, Value, Separator, DimensionName, LengthEquals, Length, LengthSeparator, AfterWord, VariableName, AfterVariable, VariableDimension, AfterVariableDimension, AfterShape, Nothing, Never}
 use Rattle.cdl_statements.specs.declared.section.Section.TheVariants.{Unopened, Globals, Dimensions, Variables, Values, Closed, Ended}
+use Rattle.cdl_tokens.specs.Tokens.{is_end}
 use Rattle.cdl_tokens.specs.declared.token.TokenKind.{TokenKind}
 use Rattle.cdl_tokens.specs.declared.token.TokenKind.TheVariants as kinds
 
@@ -50,7 +51,7 @@ next_first Globals l = if is_mark 0x7d l then Nothing else (if is_mark 0x3a l th
 next_first Dimensions l = if is_mark 0x7d l then Nothing else (if is_mark 0x3a l then AttributeName else (if opens_section_after Dimensions l then Colon else next_if (is_name l) LengthEquals))
 next_first Variables l = if is_mark 0x7d l then Nothing else (if is_mark 0x3a l then AttributeName else next_if (is_word_kind l.kind) (AfterWord (is_name l) (opens_section_after Variables l)))
 next_first Values l = if is_mark 0x7d l then Nothing else next_if (is_name l) (Equals true)
-next_first Closed l = next_if (is_end_kind l.kind) Nothing
+next_first Closed l = next_if (is_end l.kind) Nothing
 next_first Ended l = Never
 
 -- after a token

@@ -46,10 +46,6 @@ abbrev pub followed : Token → TokenKind → List Token → List Token
 followed t End rest = t ∷ []
 followed t _ rest = t ∷ rest
 
-abbrev pub is_end : TokenKind → Bool
-is_end End = true
-is_end _ = false
-
 -- a gap, or a token that isn't End
 abbrev pub is_token : Option TokenKind → Bool
 is_token (Some End) = false

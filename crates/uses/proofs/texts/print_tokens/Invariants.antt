@@ -1,5 +1,6 @@
 use Rattle.std.proofs.Common.{ℕ, ◌+◌, length, if◌then◌else◌}
-use Rattle.cdl_tokens.specs.code.Scanners.{is_end, left}
+use Rattle.cdl_tokens.specs.Tokens.{is_end}
+use Rattle.cdl_tokens.specs.code.Scanners.{left}
 use Rattle.uses.proofs.texts.print_tokens.Given as goal
 
 -- each token leaves fewer, and the last one ends the loop
