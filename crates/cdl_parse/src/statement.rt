@@ -7,7 +7,7 @@ ghost use Rattle.cdl_statements.specs.declared.due.Due.TheVariants.{First};
 ghost use Rattle.cdl_statements.specs.State.{State};
 ghost use Rattle.cdl_parse.specs.code.Defined.{ActsAsSaid};
 
-use cdl_statements::{CdlKind, Cutter, Section, check_shape};
+use cdl_statements::{CdlKind, Cutter, Due, Section, pass_statement};
 
 /// Checks that the tokens of the next statement are good ones, in an order that `section` allows (the shape of a statement). Returns a
 /// cutter (a cursor in the text) at the statement after it. What the statement says, such as its names, isn't checked. Needs a statement
@@ -23,13 +23,5 @@ pub fn check_statement(start: Cutter<'_>, section: Section) -> Result<Cutter<'_>
     ensures whole { IfOk result (λ c. completes (First section) (words start.entry) ≡ true) }
     ensures rest { IfOk result (λ c. Follows start.entry c) }
 {
-    let found = check_shape(start, section);
-    match found.bad {
-        Some(kind) => return Err(kind),
-        None => {}
-    }
-    if !found.shaped {
-        return Err(CdlKind::Syntax);
-    }
-    Ok(found.rest)
+    pass_statement(start, Due::First(section))
 }

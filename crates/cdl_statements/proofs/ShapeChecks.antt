@@ -1,5 +1,5 @@
 -- A statement, one token on.
-use Rattle.cdl_statements.proofs.Prelude.{◌≡◌, ℕ, true, false, List, [], ◌∷◌, refl, ap, ◌∙◌, Bool, Option, None, if◌then◌else◌, is_none, option_map, arith, Version, Lexeme, parts, number, numeral, first_bad, option_or, token_fault, held, Numeral}
+use Rattle.cdl_statements.proofs.Prelude.{◌≡◌, ℕ, true, false, List, [], ◌∷◌, refl, ap, ◌∙◌, Bool, Option, None, Some, if◌then◌else◌, is_none, option_map, arith, Version, Lexeme, parts, number, numeral, first_bad, option_or, token_fault, held, Numeral, CdlKind}
 
 -- a token's words, where the piece goes on and where it ends
 pub going : (ws rest : List Lexeme) (l m : Lexeme) (ends : Bool) → ws ≡ l ∷ (if ends then [] else rest) → l ≡ m → ends ≡ false → ws ≡ m ∷ rest
@@ -18,6 +18,10 @@ good_on version l ls good = ap (λ b. option_or b (first_bad version ls)) good
 
 pub good_end : (version : Version) (l : Lexeme) → token_fault version l.kind l.bytes ≡ None → first_bad version (l ∷ []) ≡ None
 good_end version l good = ap (λ b. option_or b None) good
+
+-- a bad token that comes first
+pub bad_first : (version : Version) (l : Lexeme) (ls ws : List Lexeme) (k : CdlKind) → ws ≡ l ∷ ls → token_fault version l.kind l.bytes ≡ Some k → first_bad version ws ≡ Some k
+bad_first version l ls ws k is bad = rw (is) (rw (bad) refl)
 
 -- a number is bad where it has no parts
 pub bad_number : (version : Version) (bytes : List ℕ) (r : Option Numeral) → r ≡ option_map held (parts version bytes) → is_none r ≡ is_none (numeral version bytes)

@@ -5,4 +5,4 @@ pub mod Contents
 pub mod ListedTokens
 pub mod ValueLists
 pub mod PassedValues
-pub mod ShapesFound
+pub mod ShapeFaults

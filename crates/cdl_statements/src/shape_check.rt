@@ -1,9 +1,9 @@
-//! The check of a statement's shape: where it ends, its first bad token, and whether it has a shape that its section allows.
+//! The check of a statement's shape: its first bad token, and whether its tokens are in the order that is asked for.
 
-ghost use Rattle.std.specs.Prelude.{◌≡◌, false, true, is_none, None, Some};
+ghost use Rattle.std.specs.Prelude.{◌≡◌, IfErr, IfOk, None, OnOk, Some, false, true};
 ghost use Rattle.cdl_statements.specs.code.Cutters.{Follows, is_done, version_of, words};
 ghost use Rattle.cdl_statements.specs.code.DueTokens.{completes};
-ghost use Rattle.cdl_statements.specs.code.ShapesFound.{HasShape, SaysStatement};
+ghost use Rattle.cdl_statements.specs.code.ShapeFaults.{shape_fault_of};
 ghost use Rattle.cdl_statements.specs.Shapes.{first_bad, token_fault};
 
 use crate::cutter::Cutter;
@@ -11,61 +11,40 @@ use crate::due::Due;
 use crate::fault::CdlKind;
 use crate::lexeme::Lexeme;
 use crate::passing::pass_values;
-use crate::section::Section;
 use cdl_tokens::{TokenKind, number_of_token};
 use nc_base::Version;
 
-/// What the check of a statement finds.
-#[derive(Clone, Copy)]
-pub struct ShapeCheck<'a> {
-    /// The fault of the first bad token or bad number of the statement, or `None`.
-    pub bad: Option<CdlKind>,
-    /// True if the statement has the shape that was asked for, where a bad number counts as a number.
-    pub shaped: bool,
-    /// The cutter after the statement.
-    pub rest: Cutter<'a>,
-}
-
-/// Checks the next statement of `start`, one of the section `section`. Returns the fault of its first bad token or bad number, whether it
-/// has the shape of a statement of this section (an order of tokens that the section allows), and the cutter after it. If there is no such
-/// fault and it has that shape, the statement says what its tokens say one after the other. Needs a statement that is left. Does not
-/// allocate.
-pub fn check_shape(start: Cutter<'_>, section: Section) -> ShapeCheck<'_>
+/// Passes the next statement of `start` if its tokens are good ones, in the order that is asked for, and returns the cutter after it.
+/// `first` says which token has to come first, and [`Due::after`] which one after each token. If `first` is `First` of a section, the
+/// statement has to have a shape of this section (an order of tokens that the section allows); if it is `DataName`, the statement has to
+/// list the values of a variable. Needs a statement that is left. Does not allocate.
+///
+/// # Errors
+///
+/// The fault of the statement's first bad token (`BadToken`) or bad number (`BadNumber`); or `Syntax` if its tokens are in another order.
+#[tactic(auto, using(crate::proofs::ShapeChecks::bad_first, crate::proofs::ShapeChecks::ending, crate::proofs::ShapeChecks::going, crate::proofs::ShapeChecks::good_end, crate::proofs::ShapeChecks::good_on), unfolding(crate::specs::code::DueTokens::completes))]
+pub fn pass_statement(start: Cutter<'_>, first: Due) -> Result<Cutter<'_>, CdlKind>
     requires { is_done start ≡ false }
-    ensures bad { result.bad ≡ first_bad (version_of start.entry) (words start.entry) }
-    ensures shaped { result.bad ≡ None → HasShape start.entry section result.shaped }
-    ensures says { result.bad ≡ None → result.shaped ≡ true → SaysStatement start.entry section }
-    ensures table { result.shaped ≡ completes (Due.First section) (words start.entry) }
-    ensures rest { Follows start.entry result.rest }
-{
-    check_shape_by_due(start, Due::First(section))
-}
-
-/// Checks the next statement of `start`. Returns the fault of its first bad token or bad number, whether it has the shape that is asked
-/// for, and the cutter after it. Unlike [`check_shape`], it isn't given a section: `first` says which token has to come first, and
-/// [`Due::after`] which one after each token. If `first` is `DataName`, for example, the statement has to list the values of a variable.
-/// Needs a statement that is left. Does not allocate.
-pub fn check_shape_by_due(start: Cutter<'_>, first: Due) -> ShapeCheck<'_>
-    requires { is_done start ≡ false }
-    ensures bad { result.bad ≡ first_bad (version_of start.entry) (words start.entry) }
-    ensures shaped { result.shaped ≡ completes first (words start.entry) }
-    ensures rest { Follows start.entry result.rest }
+    ensures good { OnOk result (first_bad (version_of start.entry) (words start.entry) ≡ None) }
+    ensures shaped { OnOk result (completes first (words start.entry) ≡ true) }
+    ensures fault { IfErr result (λ kind. shape_fault_of first start.entry ≡ Some kind) }
+    ensures rest { IfOk result (λ c. Follows start.entry c) }
 {
     let version = start.version();
     let mut cutter = start;
-    let mut bad = None;
     let mut due = first;
     'tokens: loop {
         let token = cutter.lexeme();
-        bad = bad.or(token_fault(version, token));
+        if let Some(kind) = token_fault(version, token) {
+            return Err(kind);
+        }
         due = due.after(token);
         let ends = cutter.advance();
         if ends {
-            return ShapeCheck {
-                bad,
-                shaped: due.is_whole(),
-                rest: cutter,
-            };
+            if due.is_whole() {
+                return Ok(cutter);
+            }
+            return Err(CdlKind::Syntax);
         }
         pass_values(&mut cutter, due);
     }

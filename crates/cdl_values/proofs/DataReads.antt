@@ -1,19 +1,14 @@
 -- What a statement of the data section means, case by case.
-use Rattle.cdl_values.proofs.Prelude.{false≢true, Version, word_value, Lexeme, is_mark, is_word_kind, is_mark_kind, first_bad, token_fault, completes, next, next_if, is_whole, only_completes, values, Due, DataName, Equals, CdlKind, Syntax, good_on, TokenKind, packed, FailsRead, data_read, bytes_assigned, packed_for, target_of, Target, ReadError, and_left, and_right, ◌≡◌, ℕ, true, false, List, [], ◌∷◌, refl, sym, ◌∙◌, Bool, Option, None, Some, Result, Ok, Err, ◌==◌, not, slice_index, if◌then◌else◌, arith}
+use Rattle.cdl_values.proofs.Prelude.{false≢true, Version, word_value, Lexeme, is_mark, is_word_kind, is_mark_kind, first_bad, token_fault, completes, next, next_if, is_whole, only_completes, values, Due, DataName, Equals, CdlKind, Syntax, good_on, TokenKind, packed, FailsRead, data_read, bytes_assigned, packed_for, target_of, Target, ReadError, and_left, and_right, ◌≡◌, ℕ, true, false, List, [], ◌∷◌, refl, sym, ◌∙◌, Bool, None, Some, Result, Ok, Err, ◌==◌, not, slice_index, if◌then◌else◌, arith}
 use Rattle.cdl_statements.specs.code.DueTokens.{is_name}
 use Rattle.nc_base.specs.Escapes.{is_reserved}
+use Rattle.std.specs.Option.{option_or}
 use Rattle.cdl_statements.specs.declared.due.Due.TheVariants.{Value}
 
-pub bad_read : (version : Version) (names : List (List ℕ)) (targets : List Target) (ws : List Lexeme) (k : CdlKind) → first_bad version ws ≡ Some k → data_read version names targets ws ≡ Err k
+-- the fault of its shape is that of the statement
+pub fault_read : (version : Version) (names : List (List ℕ)) (targets : List Target) (ws : List Lexeme) (k : CdlKind) → option_or (first_bad version ws) (if completes DataName ws then None else Some Syntax) ≡ Some k → data_read version names targets ws ≡ Err k
 unfolding data_read
-bad_read version names targets ws k bad = rw (bad) refl
-
-pub no_fault : (fault : Option CdlKind) → ((k : CdlKind) → fault ≡ Some k → ⊥) → fault ≡ None
-no_fault fault h = grind arith
-
-pub unshaped_read : (version : Version) (names : List (List ℕ)) (targets : List Target) (ws : List Lexeme) → first_bad version ws ≡ None → completes DataName ws ≡ false → data_read version names targets ws ≡ Err Syntax
-unfolding data_read
-unshaped_read version names targets ws bad off = rw (bad) (rw (off) refl)
+fault_read version names targets ws k h = grind arith
 
 good_read : (version : Version) (names : List (List ℕ)) (targets : List Target) (ws : List Lexeme) → first_bad version ws ≡ None → completes DataName ws ≡ true → data_read version names targets ws ≡ bytes_assigned version names targets ws
 unfolding data_read

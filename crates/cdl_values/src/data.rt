@@ -15,7 +15,7 @@ use crate::packing::{pack, pack_and_check};
 use crate::read_error::ReadError;
 use crate::value::QuickPassFault;
 use crate::variable_names::VariableNames;
-use cdl_statements::{CdlKind, Cutter, Due, check_shape_by_due};
+use cdl_statements::{CdlKind, Cutter, Due, pass_statement};
 use nc_base::ListedArray;
 use std::alloc::Global;
 
@@ -149,13 +149,7 @@ fn read_slowly<'a>(
     ensures position { IfOk result (λ g. IsPosition names.now (name_said start.entry) g.position) }
     ensures rest { IfOk result (λ g. Follows start.entry g.rest) }
 {
-    let found = check_shape_by_due(start, Due::DataName);
-    if let Some(kind) = found.bad {
-        return Err(ReadError::Fault(kind));
-    }
-    if !found.shaped {
-        return Err(ReadError::Fault(CdlKind::Syntax));
-    }
+    let rest = pass_statement(start, Due::DataName)?;
     let name = start.lexeme();
     let (equals, _) = start.advanced();
     let (value, _) = equals.advanced();
@@ -164,7 +158,7 @@ fn read_slowly<'a>(
     Ok(StatementValues {
         position,
         array,
-        rest: found.rest,
+        rest,
     })
 }
 
