@@ -2,11 +2,11 @@
 
 ghost use Rattle.std.specs.Prelude.{◌≡◌, [], IfOk, true, false, replicate, slice_set};
 ghost use Rattle.cdl_statements.specs.code.Cutters.{Follows, SameText, is_done, words};
-ghost use Rattle.cdl_statements.specs.declared.section.Section.TheVariants.{Values};
 ghost use Rattle.cdl_statements.specs.State.{State};
 ghost use Rattle.cdl_values.specs.code.Meant.{begins_brace};
 ghost use Rattle.cdl_parse.specs.code.ClosingLines.{closing_of};
 ghost use Rattle.cdl_parse.specs.code.DataSections.{Closes, ReadsDataSection, ReadsNextStatement, given_at};
+ghost use Rattle.cdl_parse.specs.code.Defined.{is_over};
 
 use crate::closing::PassedLines;
 use crate::parse_error::ParseError;
@@ -16,17 +16,17 @@ use cdl_values::{ReadError, Target, VariableNames, read_data_statement};
 use nc_base::ListedArray;
 use std::alloc::{AllocError, Global};
 
-/// What the data section lists, and what comes after the section.
+/// What the data section lists, if the text has one, and what comes after it.
 #[derive(Drop)]
-pub struct DataSection<'a> {
-    /// For each variable the values that the section lists, or none if no statement names the variable.
-    pub arrays: Vec<ListedArray>,
-    /// The statements after the section.
+pub struct Values<'a> {
+    /// For each variable the listed values.
+    pub listed: Vec<ListedArray>,
+    /// The section that the next statement stands in.
+    pub section: Section,
+    /// The statements that are left.
     pub rest: Cutter<'a>,
     /// The lines of the last two statements before these.
     pub lines: PassedLines,
-    /// True if the section ended with the closing brace. If false, no statement is left.
-    pub is_closed: bool,
 }
 
 /// The variables while the data section is read: what each may take, and what was listed of it so far. Both lists have one element for each
@@ -49,7 +49,7 @@ struct DataStatement<'a> {
 }
 
 /// Reads the statements of the data section up to and including the closing brace. Returns what they list, and a cutter (a cursor in the
-/// text) after the brace. If no statement is left in `start`, reads nothing, and `is_closed` of the result is false.
+/// text) after the brace, where the section is `Closed`. If no statement is left in `start`, reads nothing, and the section is `Values`.
 ///
 /// Each statement lists the values of the variable that it names, and no two of them may name the same variable (the CDL chapter of the
 /// NetCDF User's Guide, and ncgen(1)). `names` are the names of the variables, and `targets` what each may take (none is given values yet),
@@ -65,11 +65,12 @@ pub fn read_data<'a>(
     targets: Vec<Target>,
     start: Cutter<'a>,
     before: PassedLines,
-) -> Result<DataSection<'a>, ParseError>
+) -> Result<Values<'a>, ParseError>
     ensures reads { ReadsDataSection start.entry names.now targets.items result }
-    ensures ends { IfOk result (λ d. d.is_closed ≡ false → is_done d.rest ≡ true) }
-    ensures same { IfOk result (λ d. SameText start.entry d.rest) }
-    ensures lines { IfOk result (λ d. closing_of d.rest d.lines ≡ closing_of start.entry before) }
+    ensures past { IfOk result (λ values. is_done values.rest ≡ false → is_over values.section ≡ true) }
+    ensures same { IfOk result (λ values. SameText start.entry values.rest) }
+    ensures lines { IfOk result (λ values. closing_of values.rest values.lines
+        ≡ closing_of start.entry before) }
 {
     let arrays = empty_arrays(alloc, targets.len())?;
     let mut listings = Listings { targets, arrays };
@@ -77,11 +78,11 @@ pub fn read_data<'a>(
     let mut lines = before;
     'statements: loop {
         if cutter.is_done() {
-            return Ok(DataSection {
-                arrays: listings.arrays,
+            return Ok(Values {
+                listed: listings.arrays,
+                section: Section::Values,
                 rest: cutter,
                 lines,
-                is_closed: false,
             });
         }
         match read_next_statement(alloc, names, &mut listings, cutter) {
@@ -89,11 +90,11 @@ pub fn read_data<'a>(
                 lines = lines.and(cutter.line());
                 cutter = passed.rest;
                 if passed.is_brace {
-                    return Ok(DataSection {
-                        arrays: listings.arrays,
+                    return Ok(Values {
+                        listed: listings.arrays,
+                        section: Section::Closed,
                         rest: cutter,
                         lines,
-                        is_closed: true,
                     });
                 }
             }
@@ -144,7 +145,7 @@ fn read_next_statement<'a>(
 fn pass_closing_brace(start: Cutter<'_>) -> Result<DataStatement<'_>, ReadError>
     requires more { is_done start ≡ false }
     requires brace { begins_brace (words start) ≡ true }
-    ensures reads { (s : State) → s.section ≡ Values → Closes start.entry s result }
+    ensures reads { (s : State) → s.section ≡ Section.Values → Closes start.entry s result }
     ensures rest { IfOk result (λ passed. Follows start.entry passed.rest) }
 {
     let rest = check_statement(start, Section::Values)?;

@@ -1,6 +1,6 @@
 //! A whole text.
 
-ghost use Rattle.std.specs.Prelude.{if◌then◌else◌, ◌≡◌, ◌<◌, ◌^◌, IfOk, Ok, false, length, true};
+ghost use Rattle.std.specs.Prelude.{◌≡◌, ◌<◌, ◌^◌, IfOk, Ok, false, length, true};
 ghost use Rattle.cdl_statements.specs.code.Cutters.{SameText, is_done, pieces_left, text_of};
 ghost use Rattle.cdl_statements.specs.Meaning.{closing_line, empty, meaning};
 ghost use Rattle.cdl_parse.specs.code.ClosingLines.{closing_of};
@@ -10,7 +10,7 @@ ghost use Rattle.cdl_parse.specs.code.Parsing.{MeansOrOutOfMemory, ReadsAll, Rea
 ghost use Rattle.cdl_parse.specs.code.Runs.{GivesOrOutOfMemory, run_from};
 
 use crate::closing::PassedLines;
-use crate::data_section::{empty_arrays, read_data};
+use crate::data_section::{Values, empty_arrays, read_data};
 use crate::declared_values::Declared;
 use crate::definition_sections::{Defined, read_definitions};
 use crate::definitions::Definitions;
@@ -153,21 +153,9 @@ fn read_contents(alloc: Global, start: Cutter<'_>) -> Result<Contents, ParseErro
     })
 }
 
-/// What the data section lists, if the text has one, and what comes after it.
-#[derive(Drop)]
-struct Values<'a> {
-    /// For each variable the listed values.
-    listed: Vec<ListedArray>,
-    /// The section that the next statement stands in.
-    section: Section,
-    /// The statements that are left.
-    rest: Cutter<'a>,
-    /// The lines of the last two statements before these.
-    lines: PassedLines,
-}
-
-/// Reads the data section, if the text has one: if `section`, the section of the next statement, is `Values`. Returns the values that it
-/// lists of each variable, and what comes after it. Without a data section, it reads nothing, and returns an array without values for each
+/// Reads the data section, if the text has one: if `section`, the section of the next statement, is `Values`. Finds out by `dims` how many
+/// values each of `vars` may take ([`targets_of`]), and reads the statements by [`read_data`]. Returns the values that the section lists of
+/// each variable, and what comes after it. Without a data section, it reads nothing, and returns an array without values for each
 /// variable, and `section`, `start` and `before` as they are. `dims` and `vars` are those of the text, `names` are the names of `vars`, and
 /// `before` has the lines of the last two statements before `start`. If a statement is left, needs a `section` that is none of those before
 /// the data section. Errs with the fault of the first bad statement, or if an allocation failed.
@@ -188,52 +176,15 @@ fn read_values<'a>(
         ≡ closing_of start.entry before) }
 {
     match section {
-        Section::Values => read_data_section(alloc, dims, vars, names, start, before),
+        Section::Values => {
+            let targets = targets_of(alloc, dims, vars)?;
+            read_data(alloc, names, targets, start, before)
+        }
         _ => Ok(Values {
             listed: empty_arrays(alloc, vars.len())?,
             section,
             rest: start,
             lines: before,
         }),
-    }
-}
-
-/// Reads the data section, whose statements begin at `start`: finds out by `dims` how many values each of `vars` may take ([`targets_of`]),
-/// and reads the statements by [`read_data`]. Returns what the section lists, and what comes after it. `names` are the names of the
-/// variables, and `before` has the lines of the last two statements before `start`. Errs with the fault of the first bad statement, or if
-/// an allocation failed. A text that ends before the closing brace has a fault at its end.
-fn read_data_section<'a>(
-    alloc: Global,
-    dims: &[Dim],
-    vars: &[Var],
-    names: &VariableNames<'_>,
-    start: Cutter<'a>,
-    before: PassedLines,
-) -> Result<Values<'a>, ParseError>
-    ensures reads { ReadsAsDefined start.entry dims.now vars.now names.now Section.Values result }
-    ensures past { IfOk result (λ values. is_done values.rest ≡ false → is_over values.section ≡ true) }
-    ensures same { IfOk result (λ values. SameText start.entry values.rest) }
-    ensures lines { IfOk result (λ values. closing_of values.rest values.lines
-        ≡ closing_of start.entry before) }
-{
-    let targets = targets_of(alloc, dims, vars)?;
-    let data = read_data(alloc, names, targets, start, before)?;
-    Ok(Values {
-        section: section_after_data(data.is_closed),
-        rest: data.rest,
-        lines: data.lines,
-        listed: data.arrays,
-    })
-}
-
-/// Returns the section of the statement that comes after the data section: `Closed` if `is_closed` is true (the closing brace was read).
-/// Otherwise no statement is left, and it returns `Values`.
-fn section_after_data(is_closed: bool) -> Section
-    ensures { result ≡ (if is_closed then Section.Closed else Section.Values) }
-{
-    if is_closed {
-        Section::Closed
-    } else {
-        Section::Values
     }
 }

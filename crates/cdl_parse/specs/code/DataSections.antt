@@ -1,9 +1,10 @@
 -- For contracts. What the calls that read the data section answer, but for want of memory.
-use Rattle.std.specs.Prelude.{ℕ, zero, suc, ◌≡◌, ◌<◌, ◌^◌, length, Bool, true, false, if◌then◌else◌, List, [], ◌∷◌, Result, Ok, Err}
+use Rattle.std.specs.Prelude.{ℕ, zero, suc, ◌≡◌, ◌<◌, ◌^◌, length, Bool, true, false, List, [], ◌∷◌, Result, Ok, Err}
 use Rattle.nc_base.specs.declared.header.Var.{Var}
 use Rattle.cdl_statements.specs.code.Cutters.{pieces_left, text_of, version_of, words}
 use Rattle.cdl_statements.specs.declared.cutter.Cutter.{Cutter}
-use Rattle.cdl_statements.specs.declared.section.Section.TheVariants.{Values, Closed}
+use Rattle.cdl_statements.specs.declared.section.Section.TheVariants.{Closed}
+use Rattle.cdl_statements.specs.declared.section.Section.TheVariants as sections
 use Rattle.cdl_statements.specs.Meaning.{piece_read, run}
 use Rattle.cdl_statements.specs.State.{State, Draft}
 use Rattle.cdl_values.specs.code.Answers.{FailsRead}
@@ -11,7 +12,7 @@ use Rattle.cdl_values.specs.code.Listed.{AllList, unlisted_drafts}
 use Rattle.cdl_values.specs.code.Meant.{AllSuit, names_of}
 use Rattle.cdl_values.specs.declared.{data.Target.Target, read_error.ReadError.ReadError}
 use Rattle.cdl_parse.specs.code.Runs.{FailsAt}
-use Rattle.cdl_parse.specs.declared.{data_section.DataSection.DataSection, data_section.Listings.Listings, data_section.DataStatement.DataStatement, parse_error.ParseError.ParseError}
+use Rattle.cdl_parse.specs.declared.{data_section.Values.Values, data_section.Listings.Listings, data_section.DataStatement.DataStatement, parse_error.ParseError.ParseError}
 
 -- the targets, of which the one at this position is now given its values
 abbrev pub given_at : ℕ → List Target → List Target
@@ -21,14 +22,14 @@ given_at (suc position) (t ∷ ts) = t ∷ given_at position ts
 
 -- the state is in the data section: the variables have these names, of them these bytes are listed, and their targets are these
 pub record IsInDataSection (vars : List Var) (names : List (List ℕ)) (targets : List Target) (arrays : List (List ℕ)) (s : State) : Type 0 where
-  pub section : s.section ≡ Values
+  pub section : s.section ≡ sections.Values
   pub named : names ≡ names_of s.drafts
   pub suit : AllSuit s.dims targets s.drafts
   pub lists : AllList vars arrays s.drafts
 
 -- the state is at the beginning of the data section of this text: these are the variables, their names and what they take
 pub record BeginsData (start : Cutter) (names : List (List ℕ)) (targets : List Target) (vars : List Var) (s : State) : Type 0 where
-  pub section : s.section ≡ Values
+  pub section : s.section ≡ sections.Values
   pub named : names ≡ names_of s.drafts
   pub suit : AllSuit s.dims targets s.drafts
   pub unlisted : s.drafts ≡ unlisted_drafts vars
@@ -54,13 +55,13 @@ abbrev pub ReadsNextStatement : Cutter → List (List ℕ) → Listings → List
 ReadsNextStatement start names before after result =
     (vars : List Var) (s : State) → IsInDataSection vars names before.targets.items before.arrays.items s → length (text_of start) < 2 ^ 63 → ReadsOne vars start s after.targets.items after.arrays.items result
 
--- the bytes are listed of these variables, and the text is read on after the section, open or closed; or there is the fault
-abbrev pub ReadsData : List Var → Cutter → State → Result DataSection ParseError → Type 0
-ReadsData vars start s (Ok d) =
-    (ds : List Draft) × AllList vars d.arrays.items ds ×
-    (run (text_of start) (version_of start) s (pieces_left start) ≡ run (text_of start) (version_of start) (record s { section = if d.is_closed then Closed else Values; drafts = ds }) (pieces_left d.rest))
-ReadsData vars start s (Err e) = FailsAt e (run (text_of start) (version_of start) s (pieces_left start))
+-- these bytes are listed of the variables, and the text is read on after that; or there is the fault
+abbrev pub ReadsValues : List Var → Cutter → State → Result Values ParseError → Type 0
+ReadsValues vars start s (Ok values) =
+    (drafts : List Draft) × AllList vars values.listed.items drafts ×
+    (run (text_of start) (version_of start) s (pieces_left start) ≡ run (text_of start) (version_of start) (record s { section = values.section; drafts = drafts }) (pieces_left values.rest))
+ReadsValues vars start s (Err e) = FailsAt e (run (text_of start) (version_of start) s (pieces_left start))
 
 -- the same in each state that begins the section so
-abbrev pub ReadsDataSection : Cutter → List (List ℕ) → List Target → Result DataSection ParseError → Type 0
-ReadsDataSection start names targets result = (vars : List Var) (s : State) → BeginsData start names targets vars s → ReadsData vars start s result
+abbrev pub ReadsDataSection : Cutter → List (List ℕ) → List Target → Result Values ParseError → Type 0
+ReadsDataSection start names targets result = (vars : List Var) (s : State) → BeginsData start names targets vars s → ReadsValues vars start s result

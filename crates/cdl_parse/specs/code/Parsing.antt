@@ -2,15 +2,15 @@
 use Rattle.std.specs.Prelude.{ℕ, ◌≡◌, ◌⊎◌, ◌<◌, ◌^◌, length, List, Result, Ok, Err}
 use Rattle.nc_base.specs.declared.{dataset.Dataset.Dataset, header.Dim.Dim, header.Var.Var}
 use Rattle.cdl_statements.specs.declared.{fault.CdlFault.CdlFault, cutter.Cutter.Cutter, section.Section.Section}
-use Rattle.cdl_statements.specs.code.Cutters.{pieces_left, text_of, version_of}
-use Rattle.cdl_statements.specs.Meaning.{run}
+use Rattle.cdl_statements.specs.code.Cutters.{text_of}
 use Rattle.cdl_statements.specs.Bounds.{out_of_memory}
-use Rattle.cdl_statements.specs.State.{State, Draft}
+use Rattle.cdl_statements.specs.State.{State}
 use Rattle.cdl_values.specs.code.Listed.{AllList, AreShaped, unlisted_drafts}
 use Rattle.cdl_values.specs.code.Meant.{names_of}
+use Rattle.cdl_parse.specs.code.DataSections.{ReadsValues}
 use Rattle.cdl_parse.specs.code.DeclaredDatasets.{dataset_of_declared}
 use Rattle.cdl_parse.specs.code.Runs.{FailsAt}
-use Rattle.cdl_parse.specs.declared.{declared_values.Declared.Declared, text.Contents.Contents, text.Values.Values, parse_error.ParseError.ParseError}
+use Rattle.cdl_parse.specs.declared.{declared_values.Declared.Declared, text.Contents.Contents, data_section.Values.Values, parse_error.ParseError.ParseError}
 use Rattle.cdl_parse.specs.declared.parse_error.ParseError.TheVariants as stops
 
 -- what the text means; or an allocation failed, which says nothing of the text
@@ -26,13 +26,6 @@ as_dataset (Err fault) = Err fault
 abbrev pub fault_of : ParseError → CdlFault
 fault_of stops.OutOfMemory = out_of_memory
 fault_of (stops.Fault fault) = fault
-
--- these bytes are listed of the variables, and the text is read on after that; or there is the fault
-abbrev pub ReadsValues : List Var → Cutter → State → Result Values ParseError → Type 0
-ReadsValues vars start s (Ok values) =
-    (drafts : List Draft) × AllList vars values.listed.items drafts ×
-    (run (text_of start) (version_of start) s (pieces_left start) ≡ run (text_of start) (version_of start) (record s { section = values.section; drafts = drafts }) (pieces_left values.rest))
-ReadsValues vars start s (Err e) = FailsAt e (run (text_of start) (version_of start) s (pieces_left start))
 
 -- The state before the values of a text: these are its dimensions, its variables and their names.
 pub record IsDefined (start : Cutter) (dims : List Dim) (vars : List Var) (names : List (List ℕ)) (s : State) : Type 0 where

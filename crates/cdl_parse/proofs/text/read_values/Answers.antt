@@ -1,6 +1,15 @@
-use Rattle.cdl_parse.proofs.Prelude.{◌≡◌, [], length, refl, ap, sym, ◌∙◌, subst, replicate, pieces_left, text_of, version_of, run, AllList, unlisted_drafts}
+use Rattle.cdl_parse.proofs.Prelude.{◌≡◌, List, [], length, refl, ap, sym, ◌∙◌, subst, replicate, Dim, pieces_left, text_of, version_of, run, Draft, AllList, AllSuit, AreShaped, Target, unlisted_drafts}
 use Rattle.cdl_parse.proofs.WholeTexts.{none_listed, past_values}
 use Rattle.cdl_parse.proofs.text.read_values.Goals as goal
+
+suit_same : (dims ds : List Dim) (unlisted drafts : List Draft) (targets : List Target) → ds ≡ dims → drafts ≡ unlisted → AreShaped ds drafts → (AreShaped dims unlisted → AllSuit dims targets unlisted) → AllSuit ds targets drafts
+suit_same dims ds unlisted drafts targets a b shaped h =
+    subst (λ d. AllSuit d targets drafts) (sym a) (subst (AllSuit dims targets) (sym b) (h (subst (AreShaped dims) b (subst (λ d. AreShaped d drafts) a shaped))))
+
+pub returns-in_ok-targets-in-Values-clause-reads : goal.returns-in_ok-targets-in-Values-clause-reads
+returns-in_ok-targets-in-Values-clause-reads c = λ s here at.
+    let suit = suit_same c.args.dims.now s.dims _ s.drafts _ at.has_dims at.unlisted at.shaped c.in_ok-targets-in-Values.ensures in
+    c.read_data.ensures.reads c.args.vars.now s (record { section = here ∙ c.in-Values.is; named = at.named; suit = suit; unlisted = at.unlisted; short = at.short })
 
 pub returns-in_ok-empty_arrays-in_default : goal.returns-in_ok-empty_arrays-in_default
 returns-in_ok-empty_arrays-in_default c =
