@@ -28,22 +28,10 @@ impl HeaderList {
         ensures numeric { IsNumeric result }
     {
         match self {
-            HeaderList::Dims => Place {
-                owner: Owner::Header,
-                name: FieldName::DimsTag,
-            },
-            HeaderList::GlobalAtts => Place {
-                owner: Owner::Header,
-                name: FieldName::GlobalAttsTag,
-            },
-            HeaderList::Vars => Place {
-                owner: Owner::Header,
-                name: FieldName::VarsTag,
-            },
-            HeaderList::Atts(var) => Place {
-                owner: Owner::Var(var),
-                name: FieldName::AttsTag,
-            },
+            HeaderList::Dims => Owner::Header.field(FieldName::DimsTag),
+            HeaderList::GlobalAtts => Owner::Header.field(FieldName::GlobalAttsTag),
+            HeaderList::Vars => Owner::Header.field(FieldName::VarsTag),
+            HeaderList::Atts(var) => Owner::Var(var).field(FieldName::AttsTag),
         }
     }
 
@@ -53,22 +41,10 @@ impl HeaderList {
         ensures numeric { IsNumeric result }
     {
         match self {
-            HeaderList::Dims => Place {
-                owner: Owner::Header,
-                name: FieldName::DimsCount,
-            },
-            HeaderList::GlobalAtts => Place {
-                owner: Owner::Header,
-                name: FieldName::GlobalAttsCount,
-            },
-            HeaderList::Vars => Place {
-                owner: Owner::Header,
-                name: FieldName::VarsCount,
-            },
-            HeaderList::Atts(var) => Place {
-                owner: Owner::Var(var),
-                name: FieldName::AttsCount,
-            },
+            HeaderList::Dims => Owner::Header.field(FieldName::DimsCount),
+            HeaderList::GlobalAtts => Owner::Header.field(FieldName::GlobalAttsCount),
+            HeaderList::Vars => Owner::Header.field(FieldName::VarsCount),
+            HeaderList::Atts(var) => Owner::Var(var).field(FieldName::AttsCount),
         }
     }
 

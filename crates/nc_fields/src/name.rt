@@ -57,10 +57,7 @@ impl FieldReader {
             (Text ∷ Name ∷ owner_steps owner)
             (checked may_be_name BadName (bytes n HeaderTruncated)) result }
     {
-        let place = Place {
-            owner,
-            name: FieldName::Name,
-        };
+        let place = owner.field(FieldName::Name);
         let text = self.text(window, alloc, place, n)?;
         if !may_be_name(text.as_slice()) {
             return Err(HeadFault::Format(FormatFault::BadName));
@@ -100,14 +97,8 @@ impl FieldReader {
         ensures { Checked (at window.old self.old) (at window.new self.new)
             (Name ∷ owner_steps owner) (name_part lenient version) result }
     {
-        let length = Place {
-            owner,
-            name: FieldName::NameLength,
-        };
-        let padding = Place {
-            owner,
-            name: FieldName::NamePadding,
-        };
+        let length = owner.field(FieldName::NameLength);
+        let padding = owner.field(FieldName::NamePadding);
         let n = self.count(window, version, length)?;
         let text = self.name_text(window, alloc, owner, n)?;
         self.filling(window, alloc, padding, padding_len(n as u128))?;

@@ -1,11 +1,11 @@
 //! The fields that are one number.
 
-ghost use Rattle.std.specs.Prelude.{◌≡◌, ◌+◌, [], ◌∷◌, ◌==◌, ◌&&◌, ◌||◌, not, IfOk};
+ghost use Rattle.std.specs.Prelude.{◌≡◌, [], ◌∷◌, ◌==◌, ◌&&◌, ◌||◌, not};
 ghost use Rattle.std.specs.Int.{byte_len, w32};
-ghost use Rattle.nc_base.specs.Grammar.{checked, count_part, dimid_part, is_within_limits, number, limited_part, numrecs_part, offset_part, record_bytes, type_part};
+ghost use Rattle.nc_base.specs.Grammar.{checked, count_part, dimid_part, number, limited_part, numrecs_part, offset_part, type_part};
 ghost use Rattle.nc_base.specs.Parts.{Begin, Item, Length, Records, Shape, TypeCode, Vsize};
 ghost use Rattle.nc_base.specs.Versions.{count_limit, count_width, offset_width};
-ghost use Rattle.nc_base.specs.declared.fault.FormatFault.TheVariants.{BadCount, BadTag, TooLarge, TwoRecordDims};
+ghost use Rattle.nc_base.specs.declared.fault.FormatFault.TheVariants.{BadCount, BadTag, TwoRecordDims};
 ghost use Rattle.nc_file.specs.code.Window.{Read};
 ghost use Rattle.nc_fields.specs.Lenient.{any_length_limit, lenient, sized_type_in};
 ghost use Rattle.nc_fields.specs.code.Numbers.{width_of};
@@ -15,7 +15,7 @@ use crate::fields::{FieldReader, pending_field};
 use crate::place::{FieldName, Owner, Place};
 use devices::Source;
 use nc_base::{Dim, FormatFault, NcType, NumRecs, Version};
-use nc_file::{HeadFault, Window, is_dimid, total_with, type_in};
+use nc_file::{HeadFault, Window, is_dimid, type_in};
 
 /// How many bytes a number has.
 #[derive(Clone, Copy)]
@@ -133,10 +133,7 @@ impl FieldReader {
             (checked (λ len. not (has_record && (len == 0))) TwoRecordDims
             (limited_part (any_length_limit version) version)) result }
     {
-        let place = Place {
-            owner,
-            name: FieldName::Length,
-        };
+        let place = owner.field(FieldName::Length);
         let len = self.limited(window, version, place, any_length_limit(version))?;
         if has_record && len == 0 {
             return Err(HeadFault::Format(FormatFault::TwoRecordDims));
@@ -198,10 +195,7 @@ impl FieldReader {
         ensures { Checked (at window.old self.old) (at window.new self.new)
             (TypeCode ∷ owner_steps owner) (type_part lenient version) result }
     {
-        let place = Place {
-            owner,
-            name: FieldName::Type,
-        };
+        let place = owner.field(FieldName::Type);
         let code = self.number(window, place, NumberWidth::Four)?;
         Ok(sized_type_in(version, code)?)
     }
@@ -222,10 +216,7 @@ impl FieldReader {
             (Item k ∷ Shape ∷ owner_steps owner)
             (dimid_part version dims.now (k == 0)) result }
     {
-        let place = Place {
-            owner,
-            name: FieldName::DimId(k),
-        };
+        let place = owner.field(FieldName::DimId(k));
         let id = self.number(window, place, NumberWidth::of_counts(version))?;
         if !is_dimid(dims, k == 0, id) {
             return Err(HeadFault::Format(FormatFault::BadShape));
@@ -245,10 +236,7 @@ impl FieldReader {
         ensures { Checked (at window.old self.old) (at window.new self.new)
             (Begin ∷ owner_steps owner) (offset_part version) result }
     {
-        let place = Place {
-            owner,
-            name: FieldName::Begin,
-        };
+        let place = owner.field(FieldName::Begin);
         let n = self.number(window, place, NumberWidth::of_offsets(version))?;
         if version.offset_limit() <= n {
             return Err(HeadFault::Format(FormatFault::BadOffset));
@@ -267,10 +255,7 @@ impl FieldReader {
         ensures { Checked (at window.old self.old) (at window.new self.new)
             (Records ∷ []) (numrecs_part lenient version) result }
     {
-        let place = Place {
-            owner: Owner::Header,
-            name: FieldName::NumRecs,
-        };
+        let place = Owner::Header.field(FieldName::NumRecs);
         let n = self.number(window, place, NumberWidth::of_counts(version))?;
         if n == version.streaming_mark() {
             return Ok(NumRecs::Streaming);

@@ -1,5 +1,7 @@
 //! Where a field of a header stands.
 
+ghost use Rattle.std.specs.Prelude.{◌≡◌};
+
 /// What a field belongs to. Numbers count from 0.
 #[derive(Clone, Copy, Debug, PartialEq, Eq)]
 pub enum Owner {
@@ -18,6 +20,15 @@ pub enum Owner {
         /// The number of the attribute among those of the variable.
         att: u64,
     },
+}
+
+impl Owner {
+    /// Returns the place of this field of the owner.
+    pub(crate) fn field(self, name: FieldName) -> Place
+        ensures { result ≡ record { owner = self; name = name } }
+    {
+        Place { owner: self, name }
+    }
 }
 
 /// A field of the header, or of a dimension, an attribute or a variable. In brackets stands what the NetCDF Classic Format Specification

@@ -13,5 +13,5 @@ returns-in_err-list g c = failed c.from_residual-in_err-list.ensures.1 (letters-
 pub returns : goal.returns
 returns g c =
     rw (c.letters_in-answer.ensures, c.as_slice.ensures, letters-answer)
-    (listed-letters c.args.is_hdf5 c.requires c.pending_field-start.ensures c.letters_there-there.ensures c.filling_bytes.ensures c.in_ok-letters.ensures
+    (listed-letters c.args.is_hdf5 c.requires (rw c.field-place.ensures at c.pending_field-start.ensures) c.letters_there-there.ensures c.filling_bytes.ensures c.in_ok-letters.ensures
     (ap content.Bytes c.in_ok-kept.ensures.kept) c.in_ok-list.ensures)

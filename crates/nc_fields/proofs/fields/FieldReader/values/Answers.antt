@@ -10,7 +10,7 @@ returns-in_err-ends_with_nul g c =
     let p = err_from_is_err_and c.from_residual.result c.from_residual.ensures.1 in
     let passed = c.pass_values-passed.ensures in
     rw (p.1, p.2)
-    (record { vals = passed.vals; whole = tt; checked = listed-cut values-listed c.pending_field-start.ensures refl passed.reads (cut-in-place passed.vals _ _ _ _ _ c.in_err-ends_with_nul.ensures) })
+    (record { vals = passed.vals; whole = tt; checked = listed-cut values-listed (rw c.field-place.ensures at c.pending_field-start.ensures) refl passed.reads (cut-in-place passed.vals _ _ _ _ _ c.in_err-ends_with_nul.ensures) })
 
 pub returns-in_err-list : goal.returns-in_err-list
 returns-in_err-list g c =
@@ -25,5 +25,5 @@ returns g c =
     record {
       vals = passed.vals;
       whole = rw answer.0 at passed.whole;
-      checked = listed-whole values-listed c.pending_field-start.ensures refl passed.reads (ap (in_place passed.vals) answer.0, answer.1) (ap content.Values (last-of passed.vals _ _ answer.0 passed.last)) c.in_ok-list.ensures;
+      checked = listed-whole values-listed (rw c.field-place.ensures at c.pending_field-start.ensures) refl passed.reads (ap (in_place passed.vals) answer.0, answer.1) (ap content.Values (last-of passed.vals _ _ answer.0 passed.last)) c.in_ok-list.ensures;
     }
