@@ -15,7 +15,6 @@ use crate::place::{FieldName, Owner};
 use devices::Source;
 use nc_base::{Att, Sequence, Version, padding_len};
 use nc_file::{HeadFault, Window};
-use std::alloc::Global;
 
 /// The tag of a list of attributes (`NC_ATTRIBUTE`).
 const NC_ATTRIBUTE: u64 = 12;
@@ -49,7 +48,6 @@ impl FieldReader {
     fn att<S: Source>(
         &mut self,
         window: &mut Window<'_, S>,
-        alloc: Global,
         version: Version,
         owner: Owner,
     ) -> Result<Att, HeadFault>
@@ -58,16 +56,16 @@ impl FieldReader {
     {
         let count = owner.field(FieldName::Count);
         let padding = owner.field(FieldName::Padding);
-        let name = self.name(window, alloc, version, owner)?;
+        let name = self.name(window, version, owner)?;
         let ty = self.nc_type(window, version, owner)?;
         let n = self.count(window, version, count)?;
         let len = n as u128 * ty.size() as u128;
         self.values(window, owner, len)?;
-        self.filling(window, alloc, padding, padding_len(len))?;
+        self.filling(window, padding, padding_len(len))?;
         Ok(Att {
             name,
             ty,
-            vals: Sequence::new(alloc),
+            vals: Sequence::new(self.alloc),
         })
     }
 
@@ -76,7 +74,6 @@ impl FieldReader {
     fn atts<S: Source>(
         &mut self,
         window: &mut Window<'_, S>,
-        alloc: Global,
         version: Version,
         list: HeaderList,
         n: u64,
@@ -84,9 +81,9 @@ impl FieldReader {
         ensures { Checked (at window.old self.old) (at window.new self.new)
             (list_steps list) (each (att_after lenient version) n []) result }
     {
-        let mut atts = Sequence::new(alloc);
+        let mut atts = Sequence::new(self.alloc);
         for i in 0..n {
-            let att = self.att(window, alloc, version, list.item(i))?;
+            let att = self.att(window, version, list.item(i))?;
             atts.push(att)?;
         }
         Ok(atts)
@@ -98,7 +95,6 @@ impl FieldReader {
     pub(crate) fn att_list<S: Source>(
         &mut self,
         window: &mut Window<'_, S>,
-        alloc: Global,
         version: Version,
         list: HeaderList,
     ) -> Result<Sequence<Att>, HeadFault>
@@ -106,7 +102,7 @@ impl FieldReader {
             (list_steps list) (att_list lenient version) result }
     {
         let n = self.list_len(window, version, list, NC_ATTRIBUTE)?;
-        self.atts(window, alloc, version, list, n)
+        self.atts(window, version, list, n)
     }
 }
 

@@ -11,7 +11,6 @@ use crate::place::Owner;
 use devices::Source;
 use nc_base::{Dim, Sequence, Version};
 use nc_file::{HeadFault, Window};
-use std::alloc::Global;
 
 /// The tag of a list of dimensions (`NC_DIMENSION`).
 const NC_DIMENSION: u64 = 10;
@@ -26,7 +25,6 @@ impl FieldReader {
     fn dim<S: Source>(
         &mut self,
         window: &mut Window<'_, S>,
-        alloc: Global,
         version: Version,
         owner: Owner,
         has_record: bool,
@@ -34,7 +32,7 @@ impl FieldReader {
         ensures { Checked (at window.old self.old) (at window.new self.new)
             (owner_steps owner) (dim_part lenient version has_record) result }
     {
-        let name = self.name(window, alloc, version, owner)?;
+        let name = self.name(window, version, owner)?;
         let len = self.dim_len(window, version, owner, has_record)?;
         Ok(Dim { name, len })
     }
@@ -44,17 +42,16 @@ impl FieldReader {
     fn dims<S: Source>(
         &mut self,
         window: &mut Window<'_, S>,
-        alloc: Global,
         version: Version,
         n: u64,
     ) -> Result<Sequence<Dim>, HeadFault>
         ensures { Checked (at window.old self.old) (at window.new self.new)
             (Dims ∷ []) (each (dim_after lenient version) n []) result }
     {
-        let mut dims = Sequence::new(alloc);
+        let mut dims = Sequence::new(self.alloc);
         let mut has_record = false;
         for i in 0..n {
-            let dim = self.dim(window, alloc, version, Owner::Dim(i), has_record)?;
+            let dim = self.dim(window, version, Owner::Dim(i), has_record)?;
             has_record = has_record || dim.len == 0;
             dims.push(dim)?;
         }
@@ -67,13 +64,12 @@ impl FieldReader {
     pub(crate) fn dim_list<S: Source>(
         &mut self,
         window: &mut Window<'_, S>,
-        alloc: Global,
         version: Version,
     ) -> Result<Sequence<Dim>, HeadFault>
         ensures { Checked (at window.old self.old) (at window.new self.new)
             (Dims ∷ []) (dim_list lenient version) result }
     {
         let n = self.list_len(window, version, HeaderList::Dims, NC_DIMENSION)?;
-        self.dims(window, alloc, version, n)
+        self.dims(window, version, n)
     }
 }

@@ -8,7 +8,7 @@ use crate::place::Place;
 use devices::Source;
 use nc_base::Sequence;
 use nc_file::{HeadFault, Window};
-use std::alloc::AllocError;
+use std::alloc::{AllocError, Global};
 
 /// The field list: the fields of a header that were read so far, each with its place, its offset and what is kept of its content.
 ///
@@ -17,6 +17,8 @@ use std::alloc::AllocError;
 /// `ReadFailed` if the source fails, and with `OutOfMemory` if an allocation fails; then the list means nothing.
 #[derive(Drop)]
 pub(crate) struct FieldReader {
+    /// What takes memory for the list and for what is returned.
+    pub(crate) alloc: Global,
     pub(crate) entries: Sequence<Entry>,
 }
 

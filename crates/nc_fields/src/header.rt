@@ -78,9 +78,10 @@ pub fn list_fields<S: Source>(
         pos: 0,
     };
     let mut fields = FieldReader {
+        alloc,
         entries: Sequence::from_vec(Vec::with_capacity(alloc, FEW_FIELDS)?),
     };
-    let answer = fields.header(&mut window, alloc);
+    let answer = fields.header(&mut window);
     answered(fields, window.offset_of_next(), len, answer)
 }
 
@@ -94,7 +95,7 @@ fn answered(
 ) -> Result<Listing, ListFault>
     ensures { Answers fields.entries end file_len answer result }
 {
-    let FieldReader { entries } = fields;
+    let FieldReader { entries, .. } = fields;
     match answer {
         Ok(header) => Ok(Listing {
             entries,
@@ -136,7 +137,6 @@ impl FieldReader {
     fn listed_letters<S: Source>(
         &mut self,
         window: &mut Window<'_, S>,
-        alloc: Global,
         is_hdf5: bool,
     ) -> Result<[u8; 3], HeadFault>
         requires { OnTrue S.is_transparent
@@ -148,9 +148,12 @@ impl FieldReader {
         let place = Owner::Header.field(FieldName::Magic);
         let start = pending_field(window, place, 3);
         let there = letters_there(window);
-        let letters = start.list_if_cut(&mut self.entries, filling_bytes(window, alloc, there))?;
+        let letters = start.list_if_cut(
+            &mut self.entries,
+            filling_bytes(window, self.alloc, there),
+        )?;
         let answer = letters_in(letters.as_slice());
-        let kept = kept_letters(alloc, is_hdf5, letters)?;
+        let kept = kept_letters(self.alloc, is_hdf5, letters)?;
         start.list(&mut self.entries, Content::Bytes(kept))?;
         answer
     }
@@ -158,18 +161,14 @@ impl FieldReader {
     /// Reads the three bytes that should be `CDF`, adds them to the field list, or the signature of HDF5 if that comes next, and returns
     /// them. Errs with `NotNetcdf` if they are others, or fewer, and if the source or an allocation fails. Needs a buffer with room for the
     /// next eight bytes.
-    fn letters<S: Source>(
-        &mut self,
-        window: &mut Window<'_, S>,
-        alloc: Global,
-    ) -> Result<[u8; 3], HeadFault>
+    fn letters<S: Source>(&mut self, window: &mut Window<'_, S>) -> Result<[u8; 3], HeadFault>
         requires { window.old.pos + 8 ≤ length window.old.buf.now }
         ensures { Checked (at window.old self.old) (at window.new self.new) (Magic ∷ [])
             (checked (λ letters. bytes_eq letters (codes "CDF")) NotNetcdf (bytes 3 NotNetcdf))
             result }
     {
         let is_hdf5 = is_hdf5_next(window)?;
-        self.listed_letters(window, alloc, is_hdf5)
+        self.listed_letters(window, is_hdf5)
     }
 
     /// Reads the version byte, adds it to the field list, and returns it, whatever it is. Errs with `HeaderTruncated` if there is none, and
@@ -199,34 +198,26 @@ impl FieldReader {
     /// Reads `CDF` and the version byte, adds both to the field list, and returns the version. Errs with the fault of the first wrong
     /// field, and if the source or an allocation fails. Needs a buffer with room for the next eight bytes.
     #[tactic(auto, using(crate::proofs::Checks::chain_lists), unfolding(nc_base::specs::Grammar::magic_part))]
-    fn magic<S: Source>(
-        &mut self,
-        window: &mut Window<'_, S>,
-        alloc: Global,
-    ) -> Result<Version, HeadFault>
+    fn magic<S: Source>(&mut self, window: &mut Window<'_, S>) -> Result<Version, HeadFault>
         requires { window.old.pos + 8 ≤ length window.old.buf.now }
         ensures { Checked (at window.old self.old) (at window.new self.new) [] magic_part result }
     {
-        self.letters(window, alloc)?;
+        self.letters(window)?;
         self.version(window)
     }
 
     /// Reads the whole header, adds its fields to the field list, and returns it without the values of attributes. Errs with the fault of
     /// the first wrong field, and if the source or an allocation fails. Needs a buffer with room for the next eight bytes.
-    fn header<S: Source>(
-        &mut self,
-        window: &mut Window<'_, S>,
-        alloc: Global,
-    ) -> Result<Header, HeadFault>
+    fn header<S: Source>(&mut self, window: &mut Window<'_, S>) -> Result<Header, HeadFault>
         requires { window.old.pos + 8 ≤ length window.old.buf.now }
         ensures { Checked (at window.old self.old) (at window.new self.new)
             [] (header_by lenient) result }
     {
-        let version = self.magic(window, alloc)?;
+        let version = self.magic(window)?;
         let numrecs = self.numrecs(window, version)?;
-        let dims = self.dim_list(window, alloc, version)?;
-        let gatts = self.att_list(window, alloc, version, HeaderList::GlobalAtts)?;
-        let vars = self.var_list(window, alloc, version, dims.as_slice())?;
+        let dims = self.dim_list(window, version)?;
+        let gatts = self.att_list(window, version, HeaderList::GlobalAtts)?;
+        let vars = self.var_list(window, version, dims.as_slice())?;
         Ok(Header {
             version,
             numrecs,

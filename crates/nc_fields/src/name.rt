@@ -27,7 +27,6 @@ impl FieldReader {
     fn text<S: Source>(
         &mut self,
         window: &mut Window<'_, S>,
-        alloc: Global,
         place: Place,
         n: u64,
     ) -> Result<Sequence<u8>, HeadFault>
@@ -36,8 +35,8 @@ impl FieldReader {
             (steps_of place) (bytes n HeaderTruncated) result }
     {
         let start = pending_field(window, place, n as u128);
-        let text = start.list_if_cut(&mut self.entries, window.bytes(alloc, n as u128))?;
-        let copy = FieldBytes::from_slice(alloc, text.as_slice())?;
+        let text = start.list_if_cut(&mut self.entries, window.bytes(self.alloc, n as u128))?;
+        let copy = FieldBytes::from_slice(self.alloc, text.as_slice())?;
         start.list(&mut self.entries, Content::Bytes(copy))?;
         Ok(text)
     }
@@ -49,7 +48,6 @@ impl FieldReader {
     fn name_text<S: Source>(
         &mut self,
         window: &mut Window<'_, S>,
-        alloc: Global,
         owner: Owner,
         n: u64,
     ) -> Result<Sequence<u8>, HeadFault>
@@ -58,7 +56,7 @@ impl FieldReader {
             (checked may_be_name BadName (bytes n HeaderTruncated)) result }
     {
         let place = owner.field(FieldName::Name);
-        let text = self.text(window, alloc, place, n)?;
+        let text = self.text(window, place, n)?;
         if !may_be_name(text.as_slice()) {
             return Err(HeadFault::Format(FormatFault::BadName));
         }
@@ -70,7 +68,6 @@ impl FieldReader {
     pub(crate) fn filling<S: Source>(
         &mut self,
         window: &mut Window<'_, S>,
-        alloc: Global,
         place: Place,
         n: u64,
     ) -> Result<(), HeadFault>
@@ -79,7 +76,7 @@ impl FieldReader {
             (steps_of place) (ignored n) result }
     {
         let start = pending_field(window, place, n as u128);
-        let filling = start.list_if_cut(&mut self.entries, filling_bytes(window, alloc, n))?;
+        let filling = start.list_if_cut(&mut self.entries, filling_bytes(window, self.alloc, n))?;
         start.list(&mut self.entries, Content::Bytes(filling))?;
         Ok(())
     }
@@ -90,7 +87,6 @@ impl FieldReader {
     pub(crate) fn name<S: Source>(
         &mut self,
         window: &mut Window<'_, S>,
-        alloc: Global,
         version: Version,
         owner: Owner,
     ) -> Result<Sequence<u8>, HeadFault>
@@ -100,8 +96,8 @@ impl FieldReader {
         let length = owner.field(FieldName::NameLength);
         let padding = owner.field(FieldName::NamePadding);
         let n = self.count(window, version, length)?;
-        let text = self.name_text(window, alloc, owner, n)?;
-        self.filling(window, alloc, padding, padding_len(n as u128))?;
+        let text = self.name_text(window, owner, n)?;
+        self.filling(window, padding, padding_len(n as u128))?;
         Ok(text)
     }
 }

@@ -14,7 +14,6 @@ use crate::place::{FieldName, Owner};
 use devices::Source;
 use nc_base::{Dim, FormatFault, Sequence, Var, Version};
 use nc_file::{HeadFault, SizedType, SizedVar, Window, total_with};
-use std::alloc::Global;
 
 /// The tag of a list of variables (`NC_VARIABLE`).
 const NC_VARIABLE: u64 = 11;
@@ -29,7 +28,6 @@ impl FieldReader {
     fn dimids<S: Source>(
         &mut self,
         window: &mut Window<'_, S>,
-        alloc: Global,
         version: Version,
         owner: Owner,
         dims: &[Dim],
@@ -38,7 +36,7 @@ impl FieldReader {
         ensures { Checked (at window.old self.old) (at window.new self.new)
             (Shape ∷ owner_steps owner) (each (dimid_after version dims.now) n []) result }
     {
-        let mut dimids = Sequence::new(alloc);
+        let mut dimids = Sequence::new(self.alloc);
         for i in 0..n {
             let id = self.dimid(window, version, owner, i, dims)?;
             dimids.push(id)?;
@@ -52,7 +50,6 @@ impl FieldReader {
     fn shape<S: Source>(
         &mut self,
         window: &mut Window<'_, S>,
-        alloc: Global,
         version: Version,
         owner: Owner,
         dims: &[Dim],
@@ -62,7 +59,7 @@ impl FieldReader {
     {
         let rank = owner.field(FieldName::Rank);
         let n = self.count(window, version, rank)?;
-        self.dimids(window, alloc, version, owner, dims, n)
+        self.dimids(window, version, owner, dims, n)
     }
 
     /// Reads the type code of a variable (`owner`) with the shape `dimids`, and adds it to the field list. Returns the type, or for a
@@ -96,7 +93,6 @@ impl FieldReader {
     fn var<S: Source>(
         &mut self,
         window: &mut Window<'_, S>,
-        alloc: Global,
         version: Version,
         number: u64,
         dims: &[Dim],
@@ -109,9 +105,9 @@ impl FieldReader {
     {
         let owner = Owner::Var(number);
         let vsize = owner.field(FieldName::Vsize);
-        let name = self.name(window, alloc, version, owner)?;
-        let dimids = self.shape(window, alloc, version, owner, dims)?;
-        let atts = self.att_list(window, alloc, version, HeaderList::Atts(number))?;
+        let name = self.name(window, version, owner)?;
+        let dimids = self.shape(window, version, owner, dims)?;
+        let atts = self.att_list(window, version, HeaderList::Atts(number))?;
         let ids = dimids.as_slice();
         let sized = self.var_type(window, version, owner, dims, ids, total)?;
         self.number(window, vsize, NumberWidth::of_counts(version))?;
@@ -134,7 +130,6 @@ impl FieldReader {
     fn vars<S: Source>(
         &mut self,
         window: &mut Window<'_, S>,
-        alloc: Global,
         version: Version,
         dims: &[Dim],
         n: u64,
@@ -142,10 +137,10 @@ impl FieldReader {
         ensures { Checked (at window.old self.old) (at window.new self.new)
             (Vars ∷ []) (each (var_after lenient version dims.now) n []) result }
     {
-        let mut vars = Sequence::new(alloc);
+        let mut vars = Sequence::new(self.alloc);
         let mut total = 0;
         for i in 0..n {
-            let sized = self.var(window, alloc, version, i, dims, total)?;
+            let sized = self.var(window, version, i, dims, total)?;
             total = sized.total;
             vars.push(sized.var)?;
         }
@@ -158,7 +153,6 @@ impl FieldReader {
     pub(crate) fn var_list<S: Source>(
         &mut self,
         window: &mut Window<'_, S>,
-        alloc: Global,
         version: Version,
         dims: &[Dim],
     ) -> Result<Sequence<Var>, HeadFault>
@@ -166,6 +160,6 @@ impl FieldReader {
             (Vars ∷ []) (var_list lenient version dims.now) result }
     {
         let n = self.list_len(window, version, HeaderList::Vars, NC_VARIABLE)?;
-        self.vars(window, alloc, version, dims, n)
+        self.vars(window, version, dims, n)
     }
 }
