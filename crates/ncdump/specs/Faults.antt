@@ -29,21 +29,13 @@ fault_text (Format fault) = format_text fault
 fault_text (NoSuchVariable index) = concat_parts (item_words ∷ decimal index ∷ codes " of -v" ∷ [])
 fault_text (DataTruncated var value) = concat_parts (codes "variable " ∷ decimal var ∷ truncated_words ∷ decimal value ∷ [])
 
-unfoldable pub program_words : Bytes
-program_words = codes "ncdump: "
-
-unfoldable pub dump_fault_line : Bytes → DumpFault → Bytes
-dump_fault_line file fault = concat_parts (program_words ∷ file ∷ codes ": " ∷ fault_text fault ∷ codes "\n" ∷ [])
-
-unfoldable pub cannot_open_words : Bytes
-cannot_open_words = codes ": cannot open\n"
-
-unfoldable pub cannot_open_line : Bytes → Bytes
-cannot_open_line path = concat_parts (program_words ∷ path ∷ cannot_open_words ∷ [])
+-- of a file that could not be opened or dumped
+unfoldable pub file_text : FileFault → Bytes
+file_text CannotOpen = codes "cannot open"
+file_text (Dump fault) = fault_text fault
 
 unfoldable pub file_line : Bytes → FileFault → Bytes
-file_line path CannotOpen = cannot_open_line path
-file_line path (Dump fault) = dump_fault_line path fault
+file_line path fault = concat_parts (codes "ncdump: " ∷ path ∷ codes ": " ∷ file_text fault ∷ codes "\n" ∷ [])
 
 unfoldable pub usage_line : Bytes
 usage_line = codes "usage: ncdump [-h] [-c] [-v names] [-n name] [-l width] file\n"

@@ -2,7 +2,7 @@
 
 ghost use Rattle.std.specs.Prelude.{◌≡◌};
 ghost use Rattle.devices.specs.code.SinkWrites.{Wrote};
-ghost use Rattle.ncdump.specs.Faults.{cannot_open_line, cannot_open_words, fault_text, file_line, flush_fault_line, format_text, item_words, dump_fault_line, line_of_failure, opt_fault_line, program_words, truncated_words, usage_line};
+ghost use Rattle.ncdump.specs.Faults.{fault_text, file_line, file_text, format_text, item_words, line_of_failure, opt_fault_line, truncated_words, usage_line};
 ghost use Rattle.ncdump.specs.declared.fault.DumpFault.TheVariants.{DataTruncated, NoSuchVariable};
 
 use crate::fault::{DumpFault, Failure, FileFault};
@@ -27,14 +27,14 @@ const VARIABLE: &str = "variable ";
 /// # Errors
 ///
 /// The sink failed. It took some prefix of the line.
-#[tactic(auto, unfolding(crate::specs::Faults::line_of_failure))]
+#[tactic(auto, unfolding(crate::specs::Faults::line_of_failure, crate::specs::Faults::flush_fault_line))]
 pub(crate) fn put_failure<W: Sink>(sink: &mut W, failure: &Failure) -> Result<(), WriteFailed>
     ensures { Wrote W.view sink.old sink.new (line_of_failure failure.now) result }
 {
     match failure {
         Failure::CommandLine(fault) => put_command_line_fault(sink, *fault),
         Failure::File(path, fault) => put_file_fault(sink, path.as_bytes(), *fault),
-        Failure::Flush => put(sink, flush_fault_line()),
+        Failure::Flush => put(sink, b"ncdump: write failed\n"),
     }
 }
 
@@ -53,14 +53,6 @@ pub fn put_command_line_fault<W: Sink>(sink: &mut W, fault: OptFault) -> Result<
     }
 }
 
-/// Returns the line for a flush of standard output that failed: `ncdump: write failed`, and a line feed.
-#[tactic(auto, unfolding(crate::specs::Faults::flush_fault_line))]
-fn flush_fault_line() -> &'static [u8]
-    ensures { result.now ≡ flush_fault_line }
-{
-    b"ncdump: write failed\n"
-}
-
 /// Returns the line that says how the program is used, with its line feed.
 #[tactic(auto, unfolding(crate::specs::Faults::usage_line))]
 fn usage_line() -> &'static [u8]
@@ -69,51 +61,41 @@ fn usage_line() -> &'static [u8]
     b"usage: ncdump [-h] [-c] [-v names] [-n name] [-l width] file\n"
 }
 
-/// Writes the line that says why a file could not be opened (`ncdump: PATH: cannot open`) or dumped ([`fault_line`]). Errs if the sink
-/// fails.
-#[tactic(auto, unfolding(crate::specs::Faults::file_line))]
-fn put_file_fault<W: Sink>(sink: &mut W, path: &[u8], fault: FileFault) -> Result<(), WriteFailed>
-    ensures { Wrote W.view sink.old sink.new (file_line path.now fault) result }
-{
-    match fault {
-        FileFault::CannotOpen => put_cannot_open(sink, path),
-        FileFault::Dump(fault) => fault_line(sink, path, &fault),
-    }
-}
-
-/// Writes the line for a path that can't be opened: `ncdump: PATH: cannot open`, and a line feed. Errs if the sink fails.
-#[tactic(auto, using(devices::proofs::Writes::writes), unfolding(crate::specs::Faults::cannot_open_line))]
-fn put_cannot_open<W: Sink>(sink: &mut W, path: &[u8]) -> Result<(), WriteFailed>
-    ensures { Wrote W.view sink.old sink.new (cannot_open_line path.now) result }
-{
-    put(sink, program_words())?;
-    put(sink, path)?;
-    put(sink, cannot_open_words())
-}
-
-/// Returns what comes after the path in the line for a path that can't be opened: `: cannot open` and a line feed.
-#[tactic(auto, unfolding(crate::specs::Faults::cannot_open_words))]
-fn cannot_open_words() -> &'static [u8]
-    ensures { result.now ≡ cannot_open_words }
-{
-    b": cannot open\n"
-}
-
 /// Writes the fault line of a file that could not be dumped: `ncdump: FILE: MESSAGE`. FILE is `file`, such as the file's path, and MESSAGE
 /// says what `fault` is.
 ///
 /// # Errors
 ///
 /// The sink failed. It took some prefix of the line.
-#[tactic(auto, using(devices::proofs::Writes::writes), unfolding(crate::specs::Faults::dump_fault_line))]
 pub fn fault_line<W: Sink>(sink: &mut W, file: &[u8], fault: &DumpFault) -> Result<(), WriteFailed>
-    ensures { Wrote W.view sink.old sink.new (dump_fault_line file.now fault.now) result }
+    ensures { Wrote W.view sink.old sink.new (file_line file.now (FileFault.Dump fault.now)) result }
 {
-    put(sink, program_words())?;
-    put(sink, file)?;
+    put_file_fault(sink, file, FileFault::Dump(*fault))
+}
+
+/// Writes the line that says why a file could not be opened (`ncdump: PATH: cannot open`) or dumped ([`fault_line`]). Errs if the sink
+/// fails.
+#[tactic(auto, using(devices::proofs::Writes::writes), unfolding(crate::specs::Faults::file_line))]
+fn put_file_fault<W: Sink>(sink: &mut W, path: &[u8], fault: FileFault) -> Result<(), WriteFailed>
+    ensures { Wrote W.view sink.old sink.new (file_line path.now fault) result }
+{
+    put(sink, b"ncdump: ")?;
+    put(sink, path)?;
     put(sink, b": ")?;
-    put_message(sink, fault)?;
+    put_file_message(sink, fault)?;
     put(sink, b"\n")
+}
+
+/// Writes the message for a file that could not be opened or dumped: what is between `ncdump: PATH: ` and the line feed. Errs if the sink
+/// fails.
+#[tactic(auto, unfolding(crate::specs::Faults::file_text))]
+fn put_file_message<W: Sink>(sink: &mut W, fault: FileFault) -> Result<(), WriteFailed>
+    ensures { Wrote W.view sink.old sink.new (file_text fault) result }
+{
+    match fault {
+        FileFault::CannotOpen => put(sink, b"cannot open"),
+        FileFault::Dump(fault) => put_message(sink, &fault),
+    }
 }
 
 /// Writes the message of a fault: what is between `ncdump: FILE: ` and the line feed, such as `read failed`. Errs if the sink fails.
@@ -181,14 +163,6 @@ fn truncated_words() -> &'static str
     ensures { result.now ≡ truncated_words }
 {
     ": data truncated at value "
-}
-
-/// Returns `ncdump: `, with which each line on standard error begins, except for the usage line.
-#[tactic(auto, unfolding(crate::specs::Faults::program_words))]
-fn program_words() -> &'static [u8]
-    ensures { result.now ≡ program_words }
-{
-    b"ncdump: "
 }
 
 impl fmt::Display for DumpFault {
