@@ -17,6 +17,16 @@ use devices::{Sink, Source, put};
 use nc_base::{Header, RecordLayout, is_record_var, record_layout};
 use nc_walk::{Walk, WalkFault};
 
+/// What the text of values depends on besides the bytes of the file.
+#[derive(Clone, Copy)]
+struct DumpedFile<'a> {
+    header: &'a Header,
+    /// The number of records and the record size.
+    layout: RecordLayout,
+    /// The number of bytes at which lines of numbers are broken.
+    width: usize,
+}
+
 /// Writes the dump of the file that the source has: the head for `header` (the text before `data:`), and after `data:` the values of each
 /// variable whose item of `selection` is true. If the options ask for the header alone, no values are shown. Of the other options only the
 /// name and the width count here. Needs a sound header, such as `read_header` returns, an item of `selection` for each variable, and a
@@ -50,7 +60,12 @@ pub fn show<S: Source, W: Sink>(
     put_head(sink, options.name.as_slice(), header, layout.records)?;
     put(sink, data_word(options, header))?;
     let shown = unless_head_only(options, selection);
-    show_selected(source, header, layout, shown, options.width, buf, sink)?;
+    let file = DumpedFile {
+        header,
+        layout,
+        width: options.width,
+    };
+    show_selected(source, &file, shown, buf, sink)?;
     put(sink, FixedText::End.bytes())?;
     Ok(())
 }
@@ -76,35 +91,33 @@ fn data_word(options: &DumpOptions, header: &Header) -> &'static [u8]
 }
 
 /// Writes the values, if any, of each variable whose item of `selection` is true; a variable without an item isn't written. Reads them
-/// through `buf`, and breaks lines of numbers at `width` bytes. `layout` has the number of records and the record size. Needs a sound
-/// header with this record size, no more items than variables, and a `buf` of at least 16 bytes. Errs with `ReadFailed` or `WriteFailed` if
-/// the source or the sink failed, and with `DataTruncated` at the first of these values that isn't in the file.
+/// through `buf`. Needs a sound header with this record size, no more items than variables, and a `buf` of at least 16 bytes. Errs with
+/// `ReadFailed` or `WriteFailed` if the source or the sink failed, and with `DataTruncated` at the first of these values that isn't in the
+/// file.
 fn show_selected<S: Source, W: Sink>(
     source: &mut S,
-    header: &Header,
-    layout: RecordLayout,
+    file: &DumpedFile<'_>,
     selection: &[bool],
-    width: usize,
     buf: &mut [u8],
     sink: &mut W,
 ) -> Result<(), DumpFault>
-    requires sound { IsSound header.now }
-    requires selection { length selection.now ≤ length header.now.vars }
-    requires record_size { layout.record_size ≡ record_size header.now }
+    requires sound { IsSound file.now.header.now }
+    requires selection { length selection.now ≤ length file.now.header.now.vars }
+    requires record_size { file.now.layout.record_size ≡ record_size file.now.header.now }
     requires buffer_len { 16 ≤ length buf.old }
     ensures source { ReadFailsOnly (S.view source.old) (S.view source.new) result }
     ensures sink { ShowsOrFails (W.view sink.old) (W.view sink.new) result }
     ensures shows { OnTrue S.is_transparent (ShowsSelected
-        (dumped header.now (S.view source.old) layout.records width) selection.now
+        (dumped file.now.header.now (S.view source.old) file.now.layout.records file.now.width) selection.now
         (call_of buf.old (use_of S.view source.old source.new) (use_of W.view sink.old sink.new))
         result) }
 {
     let mut text = [0; 4096];
     for v in 0..selection.len() {
-        if !is_shown(header, v, layout.records, selection[v]) {
+        if !is_shown(file.header, v, file.layout.records, selection[v]) {
             continue;
         }
-        show_variable(source, header, v, layout, width, buf, &mut text, sink)?;
+        show_variable(source, file, v, buf, &mut text, sink)?;
     }
     Ok(())
 }
@@ -129,32 +142,30 @@ fn has_slabs(header: &Header, v: usize, count: u64) -> bool
 }
 
 /// Writes the variable at index `v`: what stands before its values, the values as they are read through `buf`, and what stands after them.
-/// Breaks lines of numbers at `width` bytes, and gathers them in `text`, which may hold anything. `layout` has the number of records and
-/// the record size. Needs a sound header with this variable and record size, and a `buf` of at least 16 bytes. Errs with `ReadFailed` or
-/// `WriteFailed` if the source or the sink failed, and with `DataTruncated` at the first value that isn't in the file.
+/// Gathers numbers in `text`, which may hold anything. Needs a sound header with this variable and record size, and a `buf` of at least 16
+/// bytes. Errs with `ReadFailed` or `WriteFailed` if the source or the sink failed, and with `DataTruncated` at the first value that isn't
+/// in the file.
 fn show_variable<S: Source, W: Sink>(
     source: &mut S,
-    header: &Header,
+    file: &DumpedFile<'_>,
     v: usize,
-    layout: RecordLayout,
-    width: usize,
     buf: &mut [u8],
     text: &mut TextBuffer,
     sink: &mut W,
 ) -> Result<(), DumpFault>
-    requires sound { IsSound header.now }
-    requires there { v < length header.now.vars }
-    requires record_size { layout.record_size ≡ record_size header.now }
+    requires sound { IsSound file.now.header.now }
+    requires there { v < length file.now.header.now.vars }
+    requires record_size { file.now.layout.record_size ≡ record_size file.now.header.now }
     requires buffer_len { 16 ≤ length buf.old }
     ensures source { ReadFailsOnly (S.view source.old) (S.view source.new) result }
     ensures sink { ShowsOrFails (W.view sink.old) (W.view sink.new) result }
     ensures shows { OnTrue S.is_transparent (ShowsAt
-        (dumped header.now (S.view source.old) layout.records width) v
+        (dumped file.now.header.now (S.view source.old) file.now.layout.records file.now.width) v
         (call_of buf.old (use_of S.view source.old source.new) (use_of W.view sink.old sink.new))
         result) }
 {
-    let mut walk = Walk::with_layout(header, v, layout, buf);
-    let mut printer = ValuePrinter::new(header, v, layout.records, width);
+    let mut walk = Walk::with_layout(file.header, v, file.layout, buf);
+    let mut printer = ValuePrinter::new(file.header, v, file.layout.records, file.width);
     printer.start(sink)?;
     loop {
         match walk.next(source) {

@@ -14,34 +14,34 @@ loop-v-init g c = record {
 pub loop-v-preserved-then-not-is_shown : goal.loop-v-preserved-then-not-is_shown
 loop-v-preserved-then-not-is_shown g c =
     let i = c.loop-v.invariant in
-    let there : c.loop-v.v < length c.args.header.now.vars = omega (arith, c.loop-v-test.true, c.requires.selection) in
+    let there : c.loop-v.v < length c.args.file.now.header.now.vars = omega (arith, c.loop-v-test.true, c.requires.selection) in
     record {
       source = i.source;
       sink = i.sink;
       buffer_len = i.buffer_len;
       selected = transparent_map g.S.Source.is_transparent (λ m.
-          place-skips (dumped c.args.header.now (g.S.Source.view c.args.source.now) c.args.layout.records c.args.width) c.args.selection.now c.loop-v.v c.is_shown.result there c.loop-v-test.true c.is_shown.ensures
+          place-skips (dumped c.args.file.now.header.now (g.S.Source.view c.args.source.now) c.args.file.now.layout.records c.args.file.now.width) c.args.selection.now c.loop-v.v c.is_shown.result there c.loop-v-test.true c.is_shown.ensures
           _ _ _ _ _ c.if-not-is_shown.true m) i.selected;
     }
 
 pub loop-v-preserved : goal.loop-v-preserved
 loop-v-preserved g c =
     let i = c.loop-v.invariant in
-    let there : c.loop-v.v < length c.args.header.now.vars = omega (arith, c.loop-v-test.true, c.requires.selection) in
+    let there : c.loop-v.v < length c.args.file.now.header.now.vars = omega (arith, c.loop-v-test.true, c.requires.selection) in
     record {
       source = c.in_ok-show_variable.ensures.source ∙ i.source;
       sink = c.in_ok-show_variable.ensures.sink ∙ i.sink;
       buffer_len = c.show_variable.auto.buf ∙ i.buffer_len;
-      selected = place-shown (dumped c.args.header.now (g.S.Source.view c.args.source.now) c.args.layout.records c.args.width) c.args.selection.now c.loop-v.v c.is_shown.result there c.loop-v-test.true c.is_shown.ensures
+      selected = place-shown (dumped c.args.file.now.header.now (g.S.Source.view c.args.source.now) c.args.file.now.layout.records c.args.file.now.width) c.args.selection.now c.loop-v.v c.is_shown.result there c.loop-v-test.true c.is_shown.ensures
           g.S.Source.is_transparent _ _ _ _ _ _ _ _ i.buffer_len c.if-not-is_shown.false i.selected refl c.in_ok-show_variable.ensures.shows;
     }
 
 pub returns-in_err-show_variable-clause-shows : goal.returns-in_err-show_variable-clause-shows
 returns-in_err-show_variable-clause-shows g c =
     let i = c.loop-v.invariant in
-    let there : c.loop-v.v < length c.args.header.now.vars = omega (arith, c.loop-v-test.true, c.requires.selection) in
+    let there : c.loop-v.v < length c.args.file.now.header.now.vars = omega (arith, c.loop-v-test.true, c.requires.selection) in
     let p = err_from_is_err_and c.from_residual.result c.from_residual.ensures.1 in
-    rw (p.1, p.2) (place-failed (dumped c.args.header.now (g.S.Source.view c.args.source.now) c.args.layout.records c.args.width) c.args.selection.now c.loop-v.v c.is_shown.result there c.loop-v-test.true c.is_shown.ensures
+    rw (p.1, p.2) (place-failed (dumped c.args.file.now.header.now (g.S.Source.view c.args.source.now) c.args.file.now.layout.records c.args.file.now.width) c.args.selection.now c.loop-v.v c.is_shown.result there c.loop-v-test.true c.is_shown.ensures
     g.S.Source.is_transparent _ _ _ _ _ _ _ _ i.buffer_len c.if-not-is_shown.false i.selected _ refl c.in_err-show_variable.ensures.shows)
 
 pub returns-in_err-show_variable-clause-sink : goal.returns-in_err-show_variable-clause-sink
