@@ -21,7 +21,7 @@ use nc_base::{Att, Dim, Header};
 /// # Errors
 ///
 /// The sink failed. It took some prefix of the text.
-#[tactic(auto, using(devices::proofs::Writes::writes), unfolding(nc_base::specs::HeadText::head_text))]
+#[tactic(auto, using(devices::proofs::Writes::writes), unfolding(nc_base::specs::HeadText::head_text, nc_base::specs::HeadText::netcdf_word))]
 pub fn put_head<W: Sink>(
     sink: &mut W,
     name: &[u8],
@@ -30,7 +30,7 @@ pub fn put_head<W: Sink>(
 ) -> Result<(), WriteFailed>
     ensures { Wrote W.view sink.old sink.new (head_text name.now header.now records) result }
 {
-    put(sink, FixedText::Netcdf.bytes())?;
+    put(sink, b"netcdf ")?;
     put_name(sink, name)?;
     put(sink, b" {\n")?;
     put_dims(sink, header.dims.as_slice(), records)?;

@@ -38,7 +38,6 @@ mod trailing_nuls;
 mod variable;
 
 pub use escaped::put_escaped;
-pub use fixed_text::FixedText;
 pub use head::put_head;
 pub use name::put_name;
 pub use number_row::TextBuffer;

@@ -1,8 +1,6 @@
 -- The text of a dump from its parts.
-use Rattle.ncdump.proofs.Prelude.{◌≡◌, ℕ, inl, inr, Bool, List, [], ◌++◌, refl, sym, ap, ◌∙◌, append_assoc, subst, Ok, Err, rules, append-nil, Header, head_text, Options, DataText, Ending, whole, data_truncated, data_word, closing_word, dump_text, SourceView, SinkView, Appended, FailedPartway, appended_then, appended_partway, DumpFault, ReadFailed, WriteFailed, DataTruncated, Dumped, dumped, selected_values, text_before, unless_head_only, KeepsUpIn, IsUpToDate, Holds, ShowsSelected, Shows, between}
+use Rattle.ncdump.proofs.Prelude.{◌≡◌, ℕ, inl, inr, Bool, List, [], ◌++◌, refl, sym, ap, ◌∙◌, append_assoc, codes, subst, Ok, Err, rules, append-nil, Header, head_text, Options, DataText, Ending, whole, data_truncated, data_word, closing_word, dump_text, SourceView, SinkView, Appended, FailedPartway, appended_then, appended_partway, DumpFault, ReadFailed, WriteFailed, DataTruncated, Dumped, dumped, selected_values, text_before, unless_head_only, KeepsUpIn, IsUpToDate, Holds, ShowsSelected, Shows, between}
 use Rattle.nc_base.specs.Bytes.{concat_parts}
-use Rattle.cdl_print.specs.code.Words.{word_text}
-use Rattle.cdl_print.specs.declared.fixed_text.FixedText.TheVariants.{End}
 use Rattle.ncdump.proofs.Calls.{call}
 use Rattle.ncdump.proofs.Held.{holds-after, holds-partway, partway-longer}
 
@@ -67,6 +65,6 @@ module _ (o : Options) (h : Header) (n : ℕ) (shown : List Bool) (buffer_len : 
       pub all-written : (new : SinkView) → Appended last new (closing_word whole) → Shows {A = Unit {0}} o h n shown (call buffer_len a c old new) (Ok tt)
       all-written new appended = search (rules, parts, section, append_assoc, appended_then)
 
-pub brace : word_text End ≡ closing_word whole
+pub brace : codes "}\n" ≡ closing_word whole
 unfolding closing_word
 brace = refl

@@ -12,7 +12,7 @@ ghost use Rattle.ncdump.specs.code.Shows.{dumped, ReadFailsOnly, SaysHasSlabs, S
 
 use crate::fault::DumpFault;
 use crate::options::DumpOptions;
-use cdl_print::{FixedText, TextBuffer, ValuePrinter, put_head};
+use cdl_print::{TextBuffer, ValuePrinter, put_head};
 use devices::{Sink, Source, put};
 use nc_base::{Header, RecordLayout, is_record_var, record_layout};
 use nc_walk::{Walk, WalkFault};
@@ -66,7 +66,7 @@ pub fn show<S: Source, W: Sink>(
         width: options.width,
     };
     show_selected(source, &file, shown, buf, sink)?;
-    put(sink, FixedText::End.bytes())?;
+    put(sink, b"}\n")?;
     Ok(())
 }
 
@@ -86,7 +86,7 @@ fn data_word(options: &DumpOptions, header: &Header) -> &'static [u8]
     if options.head_only || header.vars.is_empty() {
         b""
     } else {
-        FixedText::Data.bytes()
+        b"data:\n"
     }
 }
 

@@ -60,7 +60,7 @@ returns-in_err-put-2-clause-shows g c =
     subst (λ (k : ℕ). Shows {A = Unit {0}} o h k c.args.selection.now (call (length c.args.buf.now) a (g.S.Source.view c.show_selected.new.source) old (g.W.Sink.view c.put-2.new.sink)) (Err WriteFailed)) n
     (no-brace o h c.record_layout-layout.result.records c.args.selection.now (length c.args.buf.now) a old word before (g.S.Source.view c.show_selected.new.source) last
     (subst (λ (selection : List Bool). ShowsSelected {A = Unit {0}} (dumped h a c.record_layout-layout.result.records o.width) selection (call (length c.args.buf.now) a (g.S.Source.view c.show_selected.new.source) word last) (Ok tt)) c.unless_head_only-shown.ensures s)
-    (g.W.Sink.view c.put-2.new.sink) (subst (FailedPartway last (g.W.Sink.view c.put-2.new.sink)) (c.bytes.ensures ∙ brace) c.in_err-put-2.ensures)))
+    (g.W.Sink.view c.put-2.new.sink) (subst (FailedPartway last (g.W.Sink.view c.put-2.new.sink)) brace c.in_err-put-2.ensures)))
     c.in_ok-show_selected.ensures.shows)
 
 pub returns-clause-shows : goal.returns-clause-shows
@@ -79,5 +79,5 @@ returns-clause-shows g c =
     subst (λ (k : ℕ). Shows {A = Unit {0}} o h k c.args.selection.now (call (length c.args.buf.now) a (g.S.Source.view c.show_selected.new.source) old (g.W.Sink.view c.put-2.new.sink)) (Ok tt)) n
     (all-written o h c.record_layout-layout.result.records c.args.selection.now (length c.args.buf.now) a old word before (g.S.Source.view c.show_selected.new.source) last
     (subst (λ (selection : List Bool). ShowsSelected {A = Unit {0}} (dumped h a c.record_layout-layout.result.records o.width) selection (call (length c.args.buf.now) a (g.S.Source.view c.show_selected.new.source) word last) (Ok tt)) c.unless_head_only-shown.ensures s)
-    (g.W.Sink.view c.put-2.new.sink) (subst (Appended last (g.W.Sink.view c.put-2.new.sink)) (c.bytes.ensures ∙ brace) c.in_ok-put-2.ensures)))
+    (g.W.Sink.view c.put-2.new.sink) (subst (Appended last (g.W.Sink.view c.put-2.new.sink)) brace c.in_ok-put-2.ensures)))
     c.in_ok-show_selected.ensures.shows
