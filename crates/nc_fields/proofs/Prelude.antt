@@ -19,10 +19,10 @@ unfoldable pub use Rattle.nc_fields.specs.code.Checks.{listed, with_fault}
 pub use Rattle.nc_fields.specs.code.PassedValues.{PassesValues, in_place}
 pub use Rattle.nc_fields.specs.declared.{entry.Content.Content, entry.Entry.Entry, fields.PendingField.PendingField, header.Listing.Listing, list_fault.ListFault.ListFault, number.NumberWidth.NumberWidth, place.Owner.Owner, place.Place.Place}
 pub use Rattle.nc_fields.specs.declared.entry.Content.TheVariants.{Cut, Number}
-pub use Rattle.nc_file.proofs.Bytes.{IsAdvanced, Progress, Stopped, chunk-next, kept-then, on-by, read-content, stop-bytes}
+pub use Rattle.nc_file.proofs.Bytes.{Progress, Stopped, chunk-next, kept-then, on-by, read-content, stop-bytes}
 pub use Rattle.nc_file.proofs.PartRuns.{after-chain, after-decoded, has_record-next, left_after-err, left_after-ok, run-chain, run-decoded, run-done, run-under, shorter, within}
 pub use Rattle.nc_file.proofs.Totals.{total_of, total_of-append}
-pub use Rattle.nc_file.specs.code.Window.{Caused, FailsOnly, Kept, Read, Reads, Ready, left, next_of, source_of}
+pub use Rattle.nc_file.specs.code.Window.{Caused, FailsOnly, IsAdvanced, Kept, Read, Reads, Ready, left, next_of, source_of}
 pub use Rattle.nc_file.specs.declared.{head_fault.HeadFault.HeadFault, window.Window.Window}
 pub use Rattle.nc_file.specs.declared.head_fault.HeadFault.TheVariants.{Format, OutOfMemory, ReadFailed}
 pub use Rattle.std.proofs.Common.{Bool, Err, IfOk, List, None, Ok, Option, Result, Some, [], ap, append_assoc, ap₂, arith, codes, cond, drop, false, if◌then◌else◌, inl, inr, leb, length, length-append, length-take, map, min, nat_lt, refl, rules, slice_index, subst, suc, sym, take, take-take, take_all, true, ℕ, ◌++◌, ◌*◌, ◌+◌, ◌-◌, ◌<◌, ◌==◌, ◌∙◌, ◌∷◌, ◌≡◌, ◌≤◌}

@@ -118,7 +118,7 @@ fn pass_values<S: Source>(window: &mut Window<'_, S>, n: u128) -> Result<bool, H
         let piece = window.ready(missing);
         let len = piece.len();
         last_is_nul = ends_with_nul(piece);
-        window.pos += len;
+        window.pass(len);
         missing -= len as u128;
     }
     Ok(last_is_nul)

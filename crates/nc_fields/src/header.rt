@@ -9,7 +9,7 @@ ghost use Rattle.nc_base.specs.declared.fault.FormatFault.TheVariants.{HeaderTru
 ghost use Rattle.nc_fields.specs.Lenient.{lenient};
 ghost use Rattle.nc_file.specs.declared.head_fault.HeadFault.TheVariants.{Format};
 ghost use Rattle.nc_file.specs.code.Answers.{ReadUpTo};
-ghost use Rattle.nc_file.specs.code.Window.{left};
+ghost use Rattle.nc_file.specs.code.Window.{HasRoom, left};
 ghost use Rattle.nc_fields.specs.Entries.{hdf5_signature, seen_by};
 ghost use Rattle.nc_fields.specs.Listings.{Blames, IsListing};
 ghost use Rattle.nc_fields.specs.code.Answers.{Answers};
@@ -69,14 +69,7 @@ pub fn list_fields<S: Source>(
         ReadUpTo (S.view source.old).handed (S.view source.new).handed l.end (length buf.old)) }
 {
     let len = source.len();
-    let mut window = Window {
-        source,
-        len,
-        buf,
-        base: 0,
-        filled: 0,
-        pos: 0,
-    };
+    let mut window = Window::new(source, buf);
     let mut fields = FieldReader {
         alloc,
         entries: Sequence::from_vec(Vec::with_capacity(alloc, FEW_FIELDS)?),
@@ -162,7 +155,7 @@ impl FieldReader {
     /// them. Errs with `NotNetcdf` if they are others, or fewer, and if the source or an allocation fails. Needs a buffer with room for the
     /// next eight bytes.
     fn letters<S: Source>(&mut self, window: &mut Window<'_, S>) -> Result<[u8; 3], HeadFault>
-        requires { window.old.pos + 8 ≤ length window.old.buf.now }
+        requires { HasRoom 8 window.old }
         ensures { Checked (at window.old self.old) (at window.new self.new) (Magic ∷ [])
             (checked (λ letters. bytes_eq letters (codes "CDF")) NotNetcdf (bytes 3 NotNetcdf))
             result }
@@ -199,7 +192,7 @@ impl FieldReader {
     /// field, and if the source or an allocation fails. Needs a buffer with room for the next eight bytes.
     #[tactic(auto, using(crate::proofs::Checks::chain_lists), unfolding(nc_base::specs::Grammar::magic_part))]
     fn magic<S: Source>(&mut self, window: &mut Window<'_, S>) -> Result<Version, HeadFault>
-        requires { window.old.pos + 8 ≤ length window.old.buf.now }
+        requires { HasRoom 8 window.old }
         ensures { Checked (at window.old self.old) (at window.new self.new) [] magic_part result }
     {
         self.letters(window)?;
@@ -209,7 +202,7 @@ impl FieldReader {
     /// Reads the whole header, adds its fields to the field list, and returns it without the values of attributes. Errs with the fault of
     /// the first wrong field, and if the source or an allocation fails. Needs a buffer with room for the next eight bytes.
     fn header<S: Source>(&mut self, window: &mut Window<'_, S>) -> Result<Header, HeadFault>
-        requires { window.old.pos + 8 ≤ length window.old.buf.now }
+        requires { HasRoom 8 window.old }
         ensures { Checked (at window.old self.old) (at window.new self.new)
             [] (header_by lenient) result }
     {
@@ -232,7 +225,7 @@ impl FieldReader {
 fn letters_there<S: Source>(window: &Window<'_, S>) -> u64
     ensures { result ≡ min 3 (length (left window.now)) }
 {
-    let left = window.len - window.offset_of_next();
+    let left = window.left_len();
     if left < 3 { left } else { 3 }
 }
 

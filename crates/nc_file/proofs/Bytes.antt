@@ -1,5 +1,5 @@
 -- Reading bytes through a window: one after the other, or many at once.
-use Rattle.nc_file.proofs.Prelude.{◌≡◌, ℕ, ◌+◌, ◌-◌, ◌<◌, ◌≤◌, Bool, true, false, cond, leb, List, [], ◌∷◌, ◌++◌, length, take, drop, set, get_or, Ok, Err, refl, sym, ap, ap₂, ◌∙◌, subst, arith, rules, drop-drop, drop-take, take-take, take_all, length-replicate, length-drop, length-take, OnTrue, OnTrue_at, OnTrue_from, Ghosts, Window, HeadFault, Format, OutOfMemory, ReadFailed, HeaderTruncated, FormatFault, source_of, left, next_of, Kept, Read, Reads, Ready, FailsOnly, Stuck, ignored, Part, bytes, Outcome, and_then, run, left_after, printed_len, lt-leb, le-leb, drop_more}
+use Rattle.nc_file.proofs.Prelude.{◌≡◌, ℕ, ◌+◌, ◌-◌, ◌<◌, ◌≤◌, Bool, true, false, cond, leb, List, [], ◌∷◌, ◌++◌, length, take, drop, set, get_or, Ok, Err, refl, sym, ap, ap₂, ◌∙◌, subst, arith, rules, drop-drop, drop-take, take-take, take_all, length-replicate, length-drop, length-take, OnTrue, OnTrue_at, OnTrue_from, Ghosts, Window, HeadFault, Format, OutOfMemory, ReadFailed, HeaderTruncated, FormatFault, source_of, left, next_of, Kept, Read, Reads, Ready, FailsOnly, IsAdvanced, Stuck, ignored, Part, bytes, Outcome, and_then, run, left_after, printed_len, lt-leb, le-leb, drop_more}
 use Rattle.std.proofs.lemmas.Grind.{take-set_at}
 use Rattle.std.proofs.Math.Seq.{take-add}
 
@@ -216,14 +216,6 @@ module _ {S : Type 0} {g : Ghosts S} where
 
   pub is_ready : (w : Window S g) (most k : ℕ) → 0 < k → k ≤ most → w.pos + k ≤ w.filled → Ready w most (take (w.pos + k - w.pos) (drop w.pos w.buf.now))
   is_ready w most k some le within = search (rules, length-take, length-drop, piece_left)
-
-  -- the window now is n bytes further on
-  pub record IsAdvanced (w now : Window S g) (n : ℕ) : Type 0 where
-    pub source : now.source ≡ w.source
-    pub buf : now.buf ≡ w.buf
-    pub base : now.base ≡ w.base
-    pub filled : now.filled ≡ w.filled
-    pub pos : now.pos ≡ w.pos + n
 
   -- the next byte was taken from what the window holds
   pub took_byte : (old w : Window S g) (b : ℕ) → Kept old w → next_of w ≡ next_of old → w.pos < w.filled → b ≡ get_or w.buf.now w.pos 0

@@ -1,12 +1,14 @@
 //! A window on a source: bytes and numbers, one after the other, through a caller's buffer.
 
-ghost use Rattle.std.specs.Prelude.{◌≡◌, ◌+◌, ◌<◌, ◌≤◌, true, length, take, drop, IfOk};
+ghost use Rattle.std.specs.Prelude.{◌≡◌, ◌+◌, ◌<◌, ◌≤◌, true, length, min, take, drop, IfOk, IfErr};
+ghost use Rattle.std.specs.Bool.{OnTrue};
 ghost use Rattle.std.specs.Int.{w32, w64};
 ghost use Rattle.nc_base.specs.Grammar.{count_part, ignored, number};
 ghost use Rattle.nc_base.specs.Parts.{bytes};
 ghost use Rattle.nc_base.specs.Versions.{count_width};
 ghost use Rattle.nc_base.specs.declared.fault.FormatFault.TheVariants.{HeaderTruncated};
 ghost use Rattle.devices.specs.code.SourceReads.{AreFrom};
+ghost use Rattle.nc_file.specs.declared.head_fault.HeadFault.TheVariants.{ReadFailed};
 
 use crate::head_fault::HeadFault;
 use byteorder::{BigEndian, ByteOrder};
@@ -15,28 +17,28 @@ use nc_base::{FormatFault, Sequence, Version};
 use std::alloc::Global;
 
 /// A window on a source: a caller's buffer that holds `filled` bytes of the source, from the offset `base` on. The first `pos` of them have
-/// been used, which means read or passed over. The source has `len` bytes. The functions here read on from the source only when all
-/// `filled` bytes have been used.
+/// been used, which means read or passed over. The source has `len` bytes. The functions here, but for [`hold`](Window::hold), read on from
+/// the source only when all `filled` bytes have been used.
 ///
 /// Unless its own comment says otherwise, a function that reads through the window errs with `HeaderTruncated` if the source ends too
 /// early, with `ReadFailed` if the source fails, and with `OutOfMemory` if an allocation fails. Its other errors are those that its own
 /// comment names, and those of the functions that it calls. After an error nothing more is read through the window.
 ///
-/// A new window holds nothing: `len` is the length of the source, and `base`, `filled` and `pos` are 0.
+/// A new window holds nothing.
 #[derive(Drop)]
 pub struct Window<'a, S: Source> {
     /// The source.
-    pub source: &'a mut S,
+    source: &'a mut S,
     /// How many bytes the source has.
-    pub len: u64,
+    len: u64,
     /// The buffer.
-    pub buf: &'a mut [u8],
+    buf: &'a mut [u8],
     /// The offset of the first byte in the buffer.
-    pub base: u64,
+    base: u64,
     /// How many bytes of the source the buffer holds.
-    pub filled: usize,
+    filled: usize,
     /// How many of them have been used.
-    pub pos: usize,
+    pos: usize,
     ghost knows_len: { len ≡ length (S.view source.now).bytes },
     ghost used: { pos ≤ filled },
     ghost fits: { filled ≤ length buf.now },
@@ -45,8 +47,29 @@ pub struct Window<'a, S: Source> {
     ghost holds: { S.is_transparent ≡ true → AreFrom base filled (S.view source.now).bytes buf.now },
 }
 
+impl<'a, S: Source> Window<'a, S> {
+    ghost use Rattle.nc_file.specs.code.Window.{IsNew};
+
+    /// Returns a window on a source that holds nothing yet, in a buffer that may hold anything. Needs a buffer that isn't empty.
+    pub fn new(source: &'a mut S, buf: &'a mut [u8]) -> Window<'a, S>
+        requires { 0 < length buf.old }
+        ensures same_source { result.source.ghost_name ≡ source.entry.ghost_name }
+        ensures starts { IsNew source.old (length buf.old) result }
+    {
+        let len = source.len();
+        Window {
+            source,
+            len,
+            buf,
+            base: 0,
+            filled: 0,
+            pos: 0,
+        }
+    }
+}
+
 impl<S: Source> Window<'_, S> {
-    ghost use Rattle.nc_file.specs.code.Window.{FailsOnly, Filled, Kept, Read, Ready, Refilled, TookByte, TookSome, next_of};
+    ghost use Rattle.nc_file.specs.code.Window.{FailsOnly, Filled, HasRoom, Holds, IsAdvanced, Kept, Read, Ready, Refilled, TookByte, TookSome, held, left, next_of};
 
     /// Reads on in the source, once: the bytes that come take the place of those in the window. Returns true if at least one came,
     /// otherwise false: a transparent source ([`Source`]) has no more then. If the source fails, it errs with `ReadFailed`, and the window
@@ -84,6 +107,13 @@ impl<S: Source> Window<'_, S> {
         self.base + used
     }
 
+    /// Returns how many bytes of the source haven't been used.
+    pub fn left_len(&self) -> u64
+        ensures { result ≡ length (left self.now) }
+    {
+        self.len - self.offset_of_next()
+    }
+
     /// Makes sure that the window holds a byte that hasn't been used. Reads from the source only if all bytes that it holds have been used.
     /// Errs with `HeaderTruncated` if the source has no byte left, and with `ReadFailed` if the source fails.
     pub fn ensure_byte(&mut self) -> Result<(), HeadFault>
@@ -95,6 +125,60 @@ impl<S: Source> Window<'_, S> {
             return Err(HeadFault::Format(FormatFault::HeaderTruncated));
         }
         Ok(())
+    }
+
+    /// Reads once from the source, appends the bytes to those that the window holds, leaves them unused, and returns how many came. Needs room
+    /// for a byte in the buffer, and a source that has one more. Errs with `ReadFailed` if the source fails.
+    fn read_more(&mut self) -> Result<usize, HeadFault>
+        requires room { self.old.filled < length self.old.buf.now }
+        requires inside { self.old.base + self.old.filled < self.old.len }
+        ensures kept { Kept self.old self.new }
+        ensures cause { FailsOnly self.old self.new result }
+        ensures base { self.new.base ≡ self.old.base }
+        ensures pos { self.new.pos ≡ self.old.pos }
+        ensures more { IfOk result (λ n. self.new.filled ≡ self.old.filled + n) }
+        ensures some { OnTrue S.is_transparent (IfOk result (λ n. 0 < n)) }
+        ensures failed { IfErr result (λ e. e ≡ ReadFailed) }
+    {
+        let at = self.base + self.filled as u64;
+        let room = self.buf.len() - self.filled;
+        let wanted = if self.len - at < room as u64 {
+            (self.len - at) as usize
+        } else {
+            room
+        };
+        let end = self.filled + wanted;
+        let n = self.source.read_at(at, &mut self.buf[self.filled..end])?;
+        self.filled += n;
+        Ok(n)
+    }
+
+    /// Reads until the window holds the next `n` bytes, or all that are left if they are fewer, and leaves them unused. A clause says so of
+    /// a transparent source alone. Needs a buffer with room for them after the used bytes. Errs with `ReadFailed` if the source fails.
+    pub fn hold(&mut self, n: usize) -> Result<(), HeadFault>
+        requires { HasRoom n self.old }
+        ensures kept { Kept self.old self.new }
+        ensures cause { FailsOnly self.old self.new result }
+        ensures unused { next_of self.new ≡ next_of self.old }
+        ensures held { OnTrue S.is_transparent
+            (IfOk result (λ _. Holds (min n (length (left self.new))) self.new)) }
+        ensures failed { IfErr result (λ e. e ≡ ReadFailed) }
+    {
+        for _ in 0..n {
+            let at = self.base + self.filled as u64;
+            if self.len <= at || n <= self.filled - self.pos {
+                return Ok(());
+            }
+            self.read_more()?;
+        }
+        Ok(())
+    }
+
+    /// Returns the bytes that the window holds and that haven't been used, and leaves them unused.
+    pub fn held(&self) -> &[u8]
+        ensures { result.now ≡ held self.now }
+    {
+        &self.buf[self.pos..self.filled]
     }
 
     /// Reads one byte, and returns it. Errs with `HeaderTruncated` if no byte is left, and with `ReadFailed` if the source fails.
@@ -147,7 +231,7 @@ impl<S: Source> Window<'_, S> {
     /// Reads a big-endian number of four bytes, and returns it. Errs with `HeaderTruncated` if fewer are left, and with `ReadFailed` if the
     /// source fails.
     #[tactic(auto, using(crate::proofs::PartRuns::part_runs), unfolding(nc_base::specs::Grammar::number, nc_base::specs::code::PartRuns::printed_len))]
-    pub fn read_u32(&mut self) -> Result<u32, HeadFault>
+    pub(crate) fn read_u32(&mut self) -> Result<u32, HeadFault>
         ensures { Read self.old self.new (number w32) result }
     {
         let bytes: [u8; 4] = self.array()?;
@@ -166,7 +250,7 @@ impl<S: Source> Window<'_, S> {
 
     /// Reads a big-endian number of the width that counts have in the version, eight bytes in CDF-5 and otherwise four, and returns it,
     /// whatever it is. Errs with `HeaderTruncated` if fewer bytes are left, and with `ReadFailed` if the source fails.
-    pub fn number(&mut self, version: Version) -> Result<u64, HeadFault>
+    pub(crate) fn number(&mut self, version: Version) -> Result<u64, HeadFault>
         ensures { Read self.old self.new (number (count_width version)) result }
     {
         match version {
@@ -186,7 +270,7 @@ impl<S: Source> Window<'_, S> {
     /// Reads a count or a length (`NON_NEG`), a big-endian number of eight bytes in CDF-5 and otherwise four, and returns it. Errs with
     /// `BadCount` if its top bit is 1, with `HeaderTruncated` if fewer bytes are left, and with `ReadFailed` if the source fails.
     #[tactic(auto, using(crate::proofs::PartRuns::part_runs), unfolding(nc_base::specs::Grammar::limited_part, nc_base::specs::code::PartRuns::printed_len))]
-    pub fn count(&mut self, version: Version) -> Result<u64, HeadFault>
+    pub(crate) fn count(&mut self, version: Version) -> Result<u64, HeadFault>
         ensures { Read self.old self.new (count_part version) result }
     {
         let n = self.number(version)?;
@@ -210,6 +294,14 @@ impl<S: Source> Window<'_, S> {
             most as usize
         };
         &self.buf[self.pos..self.pos + k]
+    }
+
+    /// Counts the next `n` bytes as used. Needs a window that holds them.
+    pub fn pass(&mut self, n: usize)
+        requires { Holds n self.old }
+        ensures { IsAdvanced self.old self.new n }
+    {
+        self.pos += n;
     }
 
     /// Reads the next bytes that the window holds, at least one and at most `most`, appends them to `out`, and returns how many. If it
@@ -245,7 +337,7 @@ impl<S: Source> Window<'_, S> {
     }
 
     /// Passes over `n` bytes, whatever they are. Errs with `HeaderTruncated` if fewer are left, and with `ReadFailed` if the source fails.
-    pub fn skip(&mut self, n: u64) -> Result<(), HeadFault>
+    pub(crate) fn skip(&mut self, n: u64) -> Result<(), HeadFault>
         ensures { Read self.old self.new (ignored n) result }
     {
         if ((self.filled - self.pos) as u64) < n {

@@ -1,5 +1,5 @@
 -- For contracts. A window on a source: what is left of it, and what a reader through it has done.
-use Rattle.std.specs.Prelude.{◌≡◌, ℕ, ◌+◌, ◌<◌, ◌≤◌, Bool, true, false, List, [], ◌∷◌, ◌++◌, length, take, drop, MatchBool, Result, Ok, Err, IfOk}
+use Rattle.std.specs.Prelude.{◌≡◌, ℕ, ◌+◌, ◌-◌, ◌<◌, ◌≤◌, Bool, true, false, List, [], ◌∷◌, ◌++◌, length, take, drop, MatchBool, Result, Ok, Err, IfOk}
 use Rattle.std.specs.Bool.{OnTrue}
 use Rattle.nc_base.specs.declared.fault.FormatFault.TheVariants.{HeaderTruncated}
 use Rattle.nc_base.specs.Parts.{Part}
@@ -21,6 +21,26 @@ next_of w = w.base + w.pos
 -- the bytes that are still to be read
 abbrev pub left : {S : Type 0} {g : Ghosts S} → Window S g → List ℕ
 left w = drop (next_of w) (source_of w).bytes
+
+-- the bytes that the window holds and that are still to be used
+abbrev pub held : {S : Type 0} {g : Ghosts S} → Window S g → List ℕ
+held w = take (w.filled - w.pos) (drop w.pos w.buf.now)
+
+-- the window holds the next n bytes
+abbrev pub Holds : {S : Type 0} {g : Ghosts S} → ℕ → Window S g → Type 0
+Holds n w = w.pos + n ≤ w.filled
+
+-- the buffer has room for the next n bytes after those that were used
+abbrev pub HasRoom : {S : Type 0} {g : Ghosts S} → ℕ → Window S g → Type 0
+HasRoom n w = w.pos + n ≤ length w.buf.now
+
+-- a window on this source, with a buffer of this length, that holds nothing yet
+pub record IsNew {S : Type 0} {g : Ghosts S} (source : S) (buffer_len : ℕ) (w : Window S g) : Type 0 where
+  pub source_is : w.source.now ≡ source
+  pub buffer : length w.buf.now ≡ buffer_len
+  pub base : w.base ≡ 0
+  pub filled : w.filled ≡ 0
+  pub pos : w.pos ≡ 0
 
 -- What reading keeps: the source, its bytes and the buffer's length. Each byte up to the end of what the window holds is read once.
 pub record Kept {S : Type 0} {g : Ghosts S} (old new : Window S g) : Type 0 where
@@ -79,6 +99,14 @@ Filled old new (Err e) = Stuck old new e
 abbrev pub TookByte : {S : Type 0} {g : Ghosts S} → Window S g → Window S g → Result ℕ HeadFault → Type 0
 TookByte {g = g} old new (Ok b) = (next_of new ≡ next_of old + 1) × OnTrue g.is_transparent (take 1 (left old) ≡ b ∷ [])
 TookByte old new (Err e) = Stuck old new e
+
+-- the window now is n bytes further on
+pub record IsAdvanced {S : Type 0} {g : Ghosts S} (w now : Window S g) (n : ℕ) : Type 0 where
+  pub source : now.source ≡ w.source
+  pub buf : now.buf ≡ w.buf
+  pub base : now.base ≡ w.base
+  pub filled : now.filled ≡ w.filled
+  pub pos : now.pos ≡ w.pos + n
 
 -- the next bytes, as many as the window has and no more than most
 pub record Ready {S : Type 0} {g : Ghosts S} (w : Window S g) (most : ℕ) (bytes : List ℕ) : Type 0 where

@@ -66,23 +66,14 @@ fn read_unchecked_header<S: Source>(
     ensures spelled { IfOk result (λ h. ReadAtLeast (S.view source.old) (S.view source.new)
         (length (header_spelling h))) }
 {
-    let len = source.len();
-    let mut window = Window {
-        source,
-        len,
-        buf,
-        base: 0,
-        filled: 0,
-        pos: 0,
-    };
-    window.header(alloc)
+    Window::new(source, buf).header(alloc)
 }
 
 impl<S: Source> Window<'_, S> {
     /// Reads the three bytes that should be `CDF`, and returns them without checking them. Errs with `NotNetcdf` if fewer are left, and
     /// with `ReadFailed` if the source fails.
     #[tactic(auto, using(crate::proofs::PartRuns::cuts), unfolding(nc_base::specs::code::PartRuns::printed_len))]
-    pub fn magic_word(&mut self) -> Result<[u8; 3], HeadFault>
+    fn magic_word(&mut self) -> Result<[u8; 3], HeadFault>
         ensures { Read self.old self.new (bytes 3 NotNetcdf) result }
     {
         match self.array() {

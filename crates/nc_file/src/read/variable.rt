@@ -3,8 +3,7 @@
 ghost use Rattle.std.specs.Prelude.{IfOk, IfSome, ◌≡◌, ◌+◌, ◌≤◌, [], true, if◌then◌else◌, length};
 ghost use Rattle.nc_base.specs.Bytes.{padding_len};
 ghost use Rattle.nc_base.specs.Sizes.{is_record_shape, slab_limit};
-ghost use Rattle.nc_base.specs.Versions.{offset_width};
-ghost use Rattle.nc_base.specs.Grammar.{checked, dimid_after, dimid_part, each, is_dimid, is_within_limits, number, offset_part, record_bytes, shape_part, type_part, var_after, var_list, var_part, strict};
+ghost use Rattle.nc_base.specs.Grammar.{checked, dimid_after, dimid_part, each, is_dimid, is_within_limits, offset_part, record_bytes, shape_part, type_part, var_after, var_list, var_part, strict};
 ghost use Rattle.nc_base.specs.declared.fault.FormatFault.TheVariants.{TooLarge};
 ghost use Rattle.nc_file.specs.code.SizedVars.{IsCounted, IsCountedType, total_with, type_of, var_of};
 ghost use Rattle.nc_file.specs.code.Window.{Read};
@@ -72,24 +71,16 @@ impl<S: Source> Window<'_, S> {
         self.dimids(alloc, version, dims, n)
     }
 
-    /// Reads a big-endian number of the width that offsets have in the version, four bytes in CDF-1 and otherwise eight, and returns it,
-    /// also if its top bit is 1. Errs with `HeaderTruncated` if fewer bytes are left, and with `ReadFailed` if the source fails.
-    pub fn unchecked_offset(&mut self, version: Version) -> Result<u64, HeadFault>
-        ensures { Read self.old self.new (number (offset_width version)) result }
-    {
-        match version {
-            Version::Cdf1 => self.read_u32_as_u64(),
-            Version::Cdf2 | Version::Cdf5 => self.read_u64(),
-        }
-    }
-
-    /// Reads a variable's begin, the offset of its first value, and returns it. Errs with `BadOffset` if its top bit is 1, with
-    /// `HeaderTruncated` if bytes are missing, and with `ReadFailed` if the source fails.
+    /// Reads a variable's begin, the offset of its first value (four bytes in CDF-1 and otherwise eight), and returns it. Errs with
+    /// `BadOffset` if its top bit is 1, with `HeaderTruncated` if bytes are missing, and with `ReadFailed` if the source fails.
     #[tactic(auto, using(crate::proofs::PartRuns::part_runs), unfolding(nc_base::specs::Grammar::offset_part, nc_base::specs::code::PartRuns::printed_len))]
     fn offset(&mut self, version: Version) -> Result<u64, HeadFault>
         ensures { Read self.old self.new (offset_part version) result }
     {
-        let n = self.unchecked_offset(version)?;
+        let n = match version {
+            Version::Cdf1 => self.read_u32_as_u64()?,
+            Version::Cdf2 | Version::Cdf5 => self.read_u64()?,
+        };
         if version.offset_limit() <= n {
             return Err(HeadFault::Format(FormatFault::BadOffset));
         }

@@ -1,4 +1,4 @@
-use Rattle.nc_fields.proofs.Prelude.{err_from_is_err_and, arith, rules}
+use Rattle.nc_fields.proofs.Prelude.{err_from_is_err_and, arith}
 use Rattle.nc_fields.proofs.Passed.{passed-more, passed-all, passed-err}
 use Rattle.nc_fields.proofs.attribute.pass_values.Goals as goal
 
@@ -12,7 +12,7 @@ pub loop-missing-preserved : goal.loop-missing-preserved
 loop-missing-preserved g c =
     let e = c.in_ok-ensure_byte.ensures in
     passed-more _ _ _ _ _ _ _ _ _ _ c.loop-missing.invariant (record { kept = e.kept; failures = e.cause; used = omega (arith, e.filled.1) }) c.ready-piece.ensures
-    (search rules) c.ends_with_nul-last_is_nul.ensures (omega arith)
+    c.pass.ensures c.ends_with_nul-last_is_nul.ensures (omega arith)
 
 pub returns : goal.returns
 returns g c = passed-all _ _ _ _ _ c.loop-missing.invariant (omega arith)

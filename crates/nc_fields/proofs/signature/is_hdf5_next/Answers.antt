@@ -22,7 +22,7 @@ first-held pos filled base buf file used held enough =
 
 pub returns-clause-answer : goal.returns-clause-answer
 returns-clause-answer g c =
-    let w = c.hold.new.window in
+    let w = c.hold.new.self in
     OnTrue_from g.S.Source.is_transparent _
     (λ known.
     c.holds_hdf5.ensures

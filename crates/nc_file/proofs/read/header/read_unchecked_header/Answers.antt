@@ -82,7 +82,7 @@ spelled_handed old new (Ok h) base filled pos d = omega (arith, print-len header
 spelled_handed old new (Err e) base filled pos d = tt
 
 pub returns-clause-answer : goal.returns-clause-answer
-returns-clause-answer g c = let h = answered _ _ _ refl refl refl c.header.ensures in search rules
+returns-clause-answer g c = let s = c.new.ensures.starts in let h = answered _ _ _ s.base s.filled s.pos c.header.ensures in search rules
 
 pub returns-clause-spelled : goal.returns-clause-spelled
-returns-clause-spelled g c = let h = spelled_handed _ _ _ refl refl refl c.header.ensures in search rules
+returns-clause-spelled g c = let s = c.new.ensures.starts in let h = spelled_handed _ _ _ s.base s.filled s.pos c.header.ensures in search rules
