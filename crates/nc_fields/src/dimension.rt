@@ -33,7 +33,7 @@ impl FieldReader {
             (owner_steps owner) (dim_part lenient version has_record) result }
     {
         let name = self.name(window, version, owner)?;
-        let len = self.dim_len(window, version, owner, has_record)?;
+        let len = self.read_dim_len(window, version, owner, has_record)?;
         Ok(Dim { name, len })
     }
 

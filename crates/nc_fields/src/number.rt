@@ -121,7 +121,7 @@ impl FieldReader {
     /// with `TwoRecordDims` if it is 0, like that of a dimension before it (`has_record`), with `HeaderTruncated` if bytes are missing, and
     /// if the source or an allocation fails.
     #[tactic(auto, using(crate::proofs::Checks::part_lists), unfolding(nc_base::specs::Grammar::number, nc_base::specs::Grammar::limited_part))]
-    pub(crate) fn dim_len<S: Source>(
+    pub(crate) fn read_dim_len<S: Source>(
         &mut self,
         window: &mut Window<'_, S>,
         version: Version,

@@ -73,7 +73,7 @@ impl<S: Source> Window<'_, S> {
     /// Reads the three bytes that should be `CDF`, and returns them without checking them. Errs with `NotNetcdf` if fewer are left, and
     /// with `ReadFailed` if the source fails.
     #[tactic(auto, using(crate::proofs::PartRuns::cuts), unfolding(nc_base::specs::code::PartRuns::printed_len))]
-    fn magic_word(&mut self) -> Result<[u8; 3], HeadFault>
+    fn magic_letters(&mut self) -> Result<[u8; 3], HeadFault>
         ensures { Read self.old self.new (bytes 3 NotNetcdf) result }
     {
         match self.array() {
@@ -99,8 +99,8 @@ impl<S: Source> Window<'_, S> {
     fn magic(&mut self) -> Result<Version, HeadFault>
         ensures { Read self.old self.new magic_part result }
     {
-        let word = self.magic_word()?;
-        if word[..] != b"CDF"[..] {
+        let letters = self.magic_letters()?;
+        if letters[..] != b"CDF"[..] {
             return Err(HeadFault::Format(FormatFault::NotNetcdf));
         }
         self.version()

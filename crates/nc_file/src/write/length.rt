@@ -10,7 +10,7 @@ ghost use Rattle.nc_base.specs.code.PartRuns.{printed_len};
 use nc_base::{Att, Dim, Header, Var, Version, padding_len};
 
 /// The number of bytes of a 32-bit number: a tag, or the code of a type. `CDF` and the version byte take as many together.
-const WORD_LEN: u64 = 4;
+const U32_LEN: u64 = 4;
 
 /// Returns the number of bytes that a header takes in a file, as [`write_header`](crate::write_header) writes it, or `u64::MAX` if there
 /// are more.
@@ -19,7 +19,7 @@ pub fn header_len(header: &Header) -> u64
     ensures { result ≡ min (length (header_spelling header.now)) (2 ^ 64 - 1) }
 {
     let version = header.version;
-    let start = WORD_LEN + count_len(version);
+    let start = U32_LEN + count_len(version);
     start
         .saturating_add(dims_len(version, header.dims.as_slice()))
         .saturating_add(atts_len(version, header.gatts.as_slice()))
@@ -32,7 +32,7 @@ fn dims_len(version: Version, dims: &[Dim]) -> u64
 {
     let mut total = list_head_len(version);
     for dim in dims {
-        total = total.saturating_add(dim_len(version, dim));
+        total = total.saturating_add(dim_entry_len(version, dim));
     }
     total
 }
@@ -61,7 +61,7 @@ fn vars_len(version: Version, vars: &[Var]) -> u64
 
 /// Returns the number of bytes that the name and the length of a dimension take in a header, or `u64::MAX` if there are more.
 #[tactic(auto, using(crate::proofs::HeaderLen::fields_len))]
-fn dim_len(version: Version, dim: &Dim) -> u64
+fn dim_entry_len(version: Version, dim: &Dim) -> u64
     ensures { result ≡ min (printed_len (dim_part strict version false) dim.now) (2 ^ 64 - 1) }
 {
     name_len(version, dim.name.as_slice()).saturating_add(count_len(version))
@@ -72,10 +72,10 @@ fn dim_len(version: Version, dim: &Dim) -> u64
 fn att_len(version: Version, att: &Att) -> u64
     ensures { result ≡ min (printed_len (att_part strict version) att.now) (2 ^ 64 - 1) }
 {
-    let head = WORD_LEN + count_len(version);
+    let head = U32_LEN + count_len(version);
     name_len(version, att.name.as_slice())
         .saturating_add(head)
-        .saturating_add(padded_len(att.vals.len() as u64))
+        .saturating_add(padded_entry_len(att.vals.len() as u64))
 }
 
 /// Returns the number of bytes that a variable takes in a header, or `u64::MAX` if there are more.
@@ -84,7 +84,7 @@ fn var_len(version: Version, var: &Var) -> u64
     ensures { result ≡ min (printed_len (var_part strict version [] 0) var.now) (2 ^ 64 - 1) }
 {
     let ids = (var.dimids.len() as u64).saturating_mul(count_len(version));
-    let fields = count_len(version) + WORD_LEN + count_len(version) + offset_len(version);
+    let fields = count_len(version) + U32_LEN + count_len(version) + offset_len(version);
     name_len(version, var.name.as_slice())
         .saturating_add(ids)
         .saturating_add(atts_len(version, var.atts.as_slice()))
@@ -96,11 +96,11 @@ fn var_len(version: Version, var: &Var) -> u64
 fn name_len(version: Version, name: &[u8]) -> u64
     ensures { result ≡ min (printed_len (name_part strict version) name.now) (2 ^ 64 - 1) }
 {
-    count_len(version).saturating_add(padded_len(name.len() as u64))
+    count_len(version).saturating_add(padded_entry_len(name.len() as u64))
 }
 
 /// Returns `n` rounded up to a multiple of four, or `u64::MAX` if that is greater.
-fn padded_len(n: u64) -> u64
+fn padded_entry_len(n: u64) -> u64
     ensures { result ≡ min (n + padding_len n) (2 ^ 64 - 1) }
 {
     n.saturating_add(padding_len(n as u128))
@@ -110,7 +110,7 @@ fn padded_len(n: u64) -> u64
 fn list_head_len(version: Version) -> u64
     ensures { result ≡ 4 + byte_len (count_width version) }
 {
-    WORD_LEN + count_len(version)
+    U32_LEN + count_len(version)
 }
 
 /// Returns the number of bytes that a count takes in the version: 8 in CDF-5, otherwise 4.
