@@ -283,7 +283,7 @@ impl<S: Source> Window<'_, S> {
     /// Returns the unused bytes that the window holds, or the first `most` if there are more, without a read of the source. Leaves them
     /// unused. Needs a window with at least one unused byte, and a `most` above 0.
     pub fn ready(&self, most: u128) -> &[u8]
-        requires some { self.now.pos < self.now.filled }
+        requires some { Holds 1 self.now }
         requires most { 0 < most }
         ensures { Ready self.now most result.now }
     {
