@@ -75,7 +75,10 @@ fn records_are_counted_from_the_least_begin(rt: HostRuntime) -> Result<(), Fail>
         let header = header_of(rt.alloc(), &row)?;
         assert!(rt; header.sound(), "{vars:?}");
         let layout = record_layout(&header, *len);
-        assert!(rt; layout.record_size == *size && layout.records == *count, "{vars:?}");
+        assert!(rt;
+            layout.record_size == *size && layout.records == *count,
+            "{vars:?}"
+        );
     }
     Ok(())
 }
