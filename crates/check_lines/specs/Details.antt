@@ -5,9 +5,9 @@ use Rattle.nc_base.specs.Bytes.{Bytes}
 use Rattle.nc_base.specs.declared.fault.FormatFault.{FormatFault}
 use Rattle.nc_base.specs.declared.fault.FormatFault.TheVariants as fault
 use Rattle.nc_base.specs.Grammar.{attribute_tag, dimension_tag, variable_tag}
-use Rattle.nc_fields.specs.declared.{place.Owner.Owner, place.FieldName.FieldName, entry.Entry.Entry, header.Listing.Listing}
+use Rattle.nc_fields.specs.declared.{place.Owner.Owner, place.FieldKind.FieldKind, entry.Entry.Entry, header.Listing.Listing}
 use Rattle.nc_fields.specs.declared.place.Owner.TheVariants as owner
-use Rattle.nc_fields.specs.declared.place.FieldName.TheVariants as name
+use Rattle.nc_fields.specs.declared.place.FieldKind.TheVariants as field
 use Rattle.nc_fields.specs.declared.entry.Content.TheVariants as content
 use Rattle.nc_fields.specs.Entries.{number_of}
 use Rattle.nc_layout.specs.declared.finding.Block.TheVariants as block
@@ -30,25 +30,25 @@ abbrev pub last_type : List Entry → ℕ
 last_type entries = if number_of_field entries 1 == 5 then 11 else 6
 
 -- the tag of a list with elements
-abbrev pub tag_of : FieldName → ℕ
-tag_of name.DimsTag = dimension_tag
-tag_of name.VarsTag = variable_tag
+abbrev pub tag_of : FieldKind → ℕ
+tag_of field.DimsTag = dimension_tag
+tag_of field.VarsTag = variable_tag
 tag_of field = attribute_tag
 
 -- the numbers of this many bytes whose top bit is 0 are below this
 abbrev pub top_bit_limit : ℕ → ℕ
 top_bit_limit size = if size == 8 then 2 ^ 63 else 2 ^ 31
 
--- the field of this name is the number of a list's elements
-abbrev pub is_list_count : FieldName → Bool
-is_list_count name.DimsCount = true
-is_list_count name.GlobalAttsCount = true
-is_list_count name.VarsCount = true
-is_list_count name.AttsCount = true
+-- a field of this kind is the number of a list's elements
+abbrev pub is_list_count : FieldKind → Bool
+is_list_count field.DimsCount = true
+is_list_count field.GlobalAttsCount = true
+is_list_count field.VarsCount = true
+is_list_count field.AttsCount = true
 is_list_count field = false
 
--- the field of this name, at which reading stops, is the number of a list's elements, and the tag before it is 0
-abbrev pub is_after_zero_tag : List Entry → FieldName → Bool
+-- the field of this kind, at which reading stops, is the number of a list's elements, and the tag before it is 0
+abbrev pub is_after_zero_tag : List Entry → FieldKind → Bool
 is_after_zero_tag entries field = is_list_count field && (number_of_field entries (length entries - 2) == 0)
 
 abbrev pub below : ℕ → Message
@@ -58,9 +58,9 @@ abbrev pub fault_message : Listing → Entry → FormatFault → Message
 fault_message l e fault.NotNetcdf = says (codes ": found _, expected 0x434446") (FieldContent ∷ [])
 fault_message l e (fault.UnknownVersion version) = says (codes ": found _, expected 1, 2 or 5") (FieldContent ∷ [])
 fault_message l e fault.HeaderTruncated = says (codes ": found _, expected _ bytes") (Number (l.file_len - e.offset) ∷ Long e.size ∷ [])
-fault_message l e fault.BadTag = says (codes ": found _, expected 0 or _") (FieldContent ∷ Number (tag_of e.place.name) ∷ [])
+fault_message l e fault.BadTag = says (codes ": found _, expected 0 or _") (FieldContent ∷ Number (tag_of e.place.field) ∷ [])
 fault_message l e fault.BadCount =
-    if is_after_zero_tag l.entries e.place.name then says (codes ": found _, expected 0") (FieldContent ∷ []) else below (top_bit_limit e.size)
+    if is_after_zero_tag l.entries e.place.field then says (codes ": found _, expected 0") (FieldContent ∷ []) else below (top_bit_limit e.size)
 fault_message l e fault.BadName = says [] []
 fault_message l e fault.FloatingType = says (codes ": found _") (FieldType ∷ [])
 fault_message l e fault.BadType = says (codes ": found _, expected 1 to _") (FieldType ∷ Number (last_type l.entries) ∷ [])

@@ -3,9 +3,9 @@
 use Rattle.std.specs.Prelude.{ℕ, List, [], ◌∷◌, codes, decimal, fold, Option, Some, None, option_map, slice_get, Result, Ok, Err}
 use Rattle.nc_base.specs.Bytes.{Bytes, concat_parts}
 use Rattle.nc_base.specs.declared.{fault.FormatFault.FormatFault, header.Header.Header, header.Var.Var}
-use Rattle.nc_fields.specs.declared.{place.Owner.Owner, place.FieldName.FieldName, place.Place.Place, entry.Content.Content, entry.Entry.Entry}
+use Rattle.nc_fields.specs.declared.{place.Owner.Owner, place.FieldKind.FieldKind, place.Place.Place, entry.Content.Content, entry.Entry.Entry}
 use Rattle.nc_fields.specs.declared.place.Owner.TheVariants as owner
-use Rattle.nc_fields.specs.declared.place.FieldName.TheVariants as name
+use Rattle.nc_fields.specs.declared.place.FieldKind.TheVariants as field
 use Rattle.nc_fields.specs.declared.entry.Content.TheVariants as content
 use Rattle.nc_layout.specs.declared.{finding.Block.Block, finding.Slab.Slab}
 use Rattle.nc_layout.specs.declared.finding.Block.TheVariants as block
@@ -34,15 +34,15 @@ renamed (owner.GlobalAtt i) bytes names = record names { element = bytes }
 renamed (owner.Var i) bytes names = record names { element = bytes }
 renamed (owner.VarAtt i k) bytes names = record names { att = bytes }
 
--- once a field of this name was read: a name begins at its length, and is known after its bytes
-abbrev pub names_with : FieldName → Owner → Content → KnownNames → KnownNames
-names_with name.NameLength owner c names = renamed owner None names
-names_with name.Name owner c names = renamed owner (bytes_in c) names
+-- once a field of this kind was read: a name begins at its length, and is known after its bytes
+abbrev pub names_with : FieldKind → Owner → Content → KnownNames → KnownNames
+names_with field.NameLength owner c names = renamed owner None names
+names_with field.Name owner c names = renamed owner (bytes_in c) names
 names_with field owner c names = names
 
 -- the names that are known after one more field
 unfoldable pub with_field : KnownNames → Entry → KnownNames
-with_field names entry = names_with entry.place.name entry.place.owner entry.content names
+with_field names entry = names_with entry.place.field entry.place.owner entry.content names
 
 -- the names that are known after these fields, the first ones of a header
 abbrev pub names_after : List Entry → KnownNames
@@ -60,30 +60,30 @@ unfoldable pub element : Bytes → ℕ → Option Bytes → Bytes
 element word i name = concat_parts (word ∷ decimal i ∷ codes "]" ∷ quoted name ∷ [])
 
 -- a field, without what it belongs to
-unfoldable pub field_words : FieldName → Bytes
-field_words name.Magic = codes "magic"
-field_words name.Version = codes "version"
-field_words name.NumRecs = codes "numrecs"
-field_words name.DimsTag = codes "dims tag"
-field_words name.DimsCount = codes "dims count"
-field_words name.GlobalAttsTag = codes "gatts tag"
-field_words name.GlobalAttsCount = codes "gatts count"
-field_words name.VarsTag = codes "vars tag"
-field_words name.VarsCount = codes "vars count"
-field_words name.NameLength = codes "name length"
-field_words name.Name = codes "name"
-field_words name.NamePadding = codes "name padding"
-field_words name.Length = codes "length"
-field_words name.Type = codes "type"
-field_words name.Count = codes "count"
-field_words name.Values = codes "values"
-field_words name.Padding = codes "padding"
-field_words name.Rank = codes "rank"
-field_words (name.DimId k) = element (codes "dimid[") k None
-field_words name.AttsTag = codes "atts tag"
-field_words name.AttsCount = codes "atts count"
-field_words name.Vsize = codes "vsize"
-field_words name.Begin = codes "begin"
+unfoldable pub field_words : FieldKind → Bytes
+field_words field.Magic = codes "magic"
+field_words field.Version = codes "version"
+field_words field.NumRecs = codes "numrecs"
+field_words field.DimsTag = codes "dims tag"
+field_words field.DimsCount = codes "dims count"
+field_words field.GlobalAttsTag = codes "gatts tag"
+field_words field.GlobalAttsCount = codes "gatts count"
+field_words field.VarsTag = codes "vars tag"
+field_words field.VarsCount = codes "vars count"
+field_words field.NameLength = codes "name length"
+field_words field.Name = codes "name"
+field_words field.NamePadding = codes "name padding"
+field_words field.Length = codes "length"
+field_words field.Type = codes "type"
+field_words field.Count = codes "count"
+field_words field.Values = codes "values"
+field_words field.Padding = codes "padding"
+field_words field.Rank = codes "rank"
+field_words (field.DimId k) = element (codes "dimid[") k None
+field_words field.AttsTag = codes "atts tag"
+field_words field.AttsCount = codes "atts count"
+field_words field.Vsize = codes "vsize"
+field_words field.Begin = codes "begin"
 
 -- with a space after it
 unfoldable pub element_part : Bytes → ℕ → Option Bytes → Bytes
@@ -99,7 +99,7 @@ owner_path names (owner.VarAtt i k) =
     concat_parts (element_part (codes "var[") i names.element ∷ element_part (codes "att[") k names.att ∷ [])
 
 unfoldable pub field_path : KnownNames → Place → Bytes
-field_path names place = concat_parts (owner_path names place.owner ∷ field_words place.name ∷ [])
+field_path names place = concat_parts (owner_path names place.owner ∷ field_words place.field ∷ [])
 
 -- the name of a variable, if the header is whole
 abbrev pub var_name : Result Header FormatFault → ℕ → Option Bytes

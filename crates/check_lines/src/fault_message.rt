@@ -7,7 +7,7 @@ ghost use Rattle.check_lines.specs.code.Written.{message_of};
 use crate::message::Part::{FieldContent, FieldType, Long, Nothing, Number};
 use crate::message::{CONTENT, Message, NO_PARTS};
 use nc_base::FormatFault;
-use nc_fields::{Entry, FieldName, Listing};
+use nc_fields::{Entry, FieldKind, Listing};
 
 /// The index of the version among the fields of a header, of which `CDF` is the first.
 const VERSION_FIELD: usize = 1;
@@ -33,9 +33,9 @@ pub(crate) fn fault_message(listing: &Listing, entry: &Entry, fault: FormatFault
         }
         FormatFault::BadTag => (
             ": found _, expected 0 or _",
-            [FieldContent, Number(tag_of(entry.place.name)), Nothing],
+            [FieldContent, Number(tag_of(entry.place.field)), Nothing],
         ),
-        FormatFault::BadCount if is_after_zero_tag(entries, entry.place.name) => (
+        FormatFault::BadCount if is_after_zero_tag(entries, entry.place.field) => (
             ": found _, expected 0",
             CONTENT,
         ),
@@ -67,35 +67,35 @@ pub(crate) fn below(limit: u64) -> Message
     }
 }
 
-/// Returns true if a field of the name `name` is the number of elements of a list, and the number in the last field but one of `entries` is
+/// Returns true if a field of the kind `field` is the number of elements of a list, and the number in the last field but one of `entries` is
 /// 0. Reading stops at the last field, that number, so the one before it is the tag of the list.
-fn is_after_zero_tag(entries: &[Entry], name: FieldName) -> bool
-    ensures { result ≡ is_after_zero_tag entries.now name }
+fn is_after_zero_tag(entries: &[Entry], field: FieldKind) -> bool
+    ensures { result ≡ is_after_zero_tag entries.now field }
 {
-    is_list_count(name) && number_of_field(entries, entries.len().saturating_sub(2)) == 0
+    is_list_count(field) && number_of_field(entries, entries.len().saturating_sub(2)) == 0
 }
 
-/// Returns true if a field of this name is the number of elements of a list: of dimensions, attributes or variables.
-fn is_list_count(name: FieldName) -> bool
-    ensures { result ≡ is_list_count name }
+/// Returns true if a field of this kind is the number of elements of a list: of dimensions, attributes or variables.
+fn is_list_count(field: FieldKind) -> bool
+    ensures { result ≡ is_list_count field }
 {
     matches!(
-        name,
-        FieldName::DimsCount
-            | FieldName::GlobalAttsCount
-            | FieldName::VarsCount
-            | FieldName::AttsCount
+        field,
+        FieldKind::DimsCount
+            | FieldKind::GlobalAttsCount
+            | FieldKind::VarsCount
+            | FieldKind::AttsCount
     )
 }
 
-/// Returns the tag that a list with elements has in a file: 10 for dimensions, 11 for variables, and 12 for attributes. `name` is the field
+/// Returns the tag that a list with elements has in a file: 10 for dimensions, 11 for variables, and 12 for attributes. `field` is the field
 /// of the list's tag. Any other field gives 12.
-fn tag_of(name: FieldName) -> u64
-    ensures { result ≡ tag_of name }
+fn tag_of(field: FieldKind) -> u64
+    ensures { result ≡ tag_of field }
 {
-    match name {
-        FieldName::DimsTag => 10,
-        FieldName::VarsTag => 11,
+    match field {
+        FieldKind::DimsTag => 10,
+        FieldKind::VarsTag => 11,
         _ => 12,
     }
 }

@@ -9,7 +9,7 @@ use crate::known_names::Names;
 use crate::shown::put_name;
 use devices::{Sink, WriteFailed, put, put_decimal};
 use nc_base::{FormatFault, Header};
-use nc_fields::{FieldName, Owner, Place};
+use nc_fields::{FieldKind, Owner, Place};
 use nc_layout::{Block, Slab};
 
 /// Writes the path of a field, such as `var[2] "temperature" vsize`: what it belongs to, and which of its fields it is. `names` are the
@@ -23,7 +23,7 @@ pub(crate) fn put_field_path<W: Sink>(
     ensures { Wrote W.view sink.old sink.new (field_path (known names.entry) place) result }
 {
     put_owner(sink, names, place.owner)?;
-    put_field_words(sink, place.name)
+    put_field_words(sink, place.field)
 }
 
 /// Writes the dimension, attribute or variable that a field belongs to, such as `var[2] "temperature"`, and a space after it. Of an
@@ -92,33 +92,33 @@ fn put_quoted<W: Sink>(sink: &mut W, name: Option<&[u8]>) -> Result<(), WriteFai
 /// Writes the words for a field that end its path, such as `vsize`, `dims tag` or `dimid[2]`, without the dimension, attribute or variable
 /// that the field belongs to. Errs if the sink fails.
 #[tactic(auto, unfolding(crate::specs::Paths::field_words))]
-fn put_field_words<W: Sink>(sink: &mut W, name: FieldName) -> Result<(), WriteFailed>
-    ensures { Wrote W.view sink.old sink.new (field_words name) result }
+fn put_field_words<W: Sink>(sink: &mut W, field: FieldKind) -> Result<(), WriteFailed>
+    ensures { Wrote W.view sink.old sink.new (field_words field) result }
 {
-    match name {
-        FieldName::Magic => put(sink, b"magic"),
-        FieldName::Version => put(sink, b"version"),
-        FieldName::NumRecs => put(sink, b"numrecs"),
-        FieldName::DimsTag => put(sink, b"dims tag"),
-        FieldName::DimsCount => put(sink, b"dims count"),
-        FieldName::GlobalAttsTag => put(sink, b"gatts tag"),
-        FieldName::GlobalAttsCount => put(sink, b"gatts count"),
-        FieldName::VarsTag => put(sink, b"vars tag"),
-        FieldName::VarsCount => put(sink, b"vars count"),
-        FieldName::NameLength => put(sink, b"name length"),
-        FieldName::Name => put(sink, b"name"),
-        FieldName::NamePadding => put(sink, b"name padding"),
-        FieldName::Length => put(sink, b"length"),
-        FieldName::Type => put(sink, b"type"),
-        FieldName::Count => put(sink, b"count"),
-        FieldName::Values => put(sink, b"values"),
-        FieldName::Padding => put(sink, b"padding"),
-        FieldName::Rank => put(sink, b"rank"),
-        FieldName::DimId(k) => put_element(sink, b"dimid[", k, None),
-        FieldName::AttsTag => put(sink, b"atts tag"),
-        FieldName::AttsCount => put(sink, b"atts count"),
-        FieldName::Vsize => put(sink, b"vsize"),
-        FieldName::Begin => put(sink, b"begin"),
+    match field {
+        FieldKind::Magic => put(sink, b"magic"),
+        FieldKind::Version => put(sink, b"version"),
+        FieldKind::NumRecs => put(sink, b"numrecs"),
+        FieldKind::DimsTag => put(sink, b"dims tag"),
+        FieldKind::DimsCount => put(sink, b"dims count"),
+        FieldKind::GlobalAttsTag => put(sink, b"gatts tag"),
+        FieldKind::GlobalAttsCount => put(sink, b"gatts count"),
+        FieldKind::VarsTag => put(sink, b"vars tag"),
+        FieldKind::VarsCount => put(sink, b"vars count"),
+        FieldKind::NameLength => put(sink, b"name length"),
+        FieldKind::Name => put(sink, b"name"),
+        FieldKind::NamePadding => put(sink, b"name padding"),
+        FieldKind::Length => put(sink, b"length"),
+        FieldKind::Type => put(sink, b"type"),
+        FieldKind::Count => put(sink, b"count"),
+        FieldKind::Values => put(sink, b"values"),
+        FieldKind::Padding => put(sink, b"padding"),
+        FieldKind::Rank => put(sink, b"rank"),
+        FieldKind::DimId(k) => put_element(sink, b"dimid[", k, None),
+        FieldKind::AttsTag => put(sink, b"atts tag"),
+        FieldKind::AttsCount => put(sink, b"atts count"),
+        FieldKind::Vsize => put(sink, b"vsize"),
+        FieldKind::Begin => put(sink, b"begin"),
     }
 }
 

@@ -4,7 +4,7 @@ ghost use Rattle.std.specs.Prelude.{◌≡◌};
 ghost use Rattle.check_lines.specs.Paths.{bytes_in, no_names, renamed, with_field};
 ghost use Rattle.check_lines.specs.code.Names.{bytes_of, known};
 
-use nc_fields::{Content, Entry, FieldName, Owner};
+use nc_fields::{Content, Entry, FieldKind, Owner};
 
 /// The names of what a field belongs to, which paths show. A name is known once its bytes were passed in the listing.
 #[derive(Clone, Copy)]
@@ -31,9 +31,9 @@ pub(crate) fn no_names<'a>() -> Names<'a>
 pub(crate) fn with_field<'a>(names: Names<'a>, entry: &'a Entry) -> Names<'a>
     ensures { known result ≡ with_field (known names.entry) entry.entry.now }
 {
-    match entry.place.name {
-        FieldName::NameLength => renamed(entry.place.owner, None, names),
-        FieldName::Name => renamed(entry.place.owner, bytes_in(&entry.content), names),
+    match entry.place.field {
+        FieldKind::NameLength => renamed(entry.place.owner, None, names),
+        FieldKind::Name => renamed(entry.place.owner, bytes_in(&entry.content), names),
         _ => names,
     }
 }

@@ -5,7 +5,7 @@ use Rattle.std.proofs.lemmas.Grind.{common_steps}
 use Rattle.std.specs.Cmp.Lexicographic.{bytes_decides}
 use Rattle.nc_fields.specs.declared.entry.Content.TheVariants as content
 use Rattle.nc_fields.specs.declared.place.Owner.TheVariants as owner
-use Rattle.nc_fields.specs.declared.place.FieldName.TheVariants as name
+use Rattle.nc_fields.specs.declared.place.FieldKind.TheVariants as field
 use Rattle.nc_fields.proofs.Checks.{IsField, bytes-field, decoded-field, fault_in, seen_at, one-more, listed-one, listed-memory, with_fault-last, Stopped, stopped}
 
 -- what the letters are judged by
@@ -16,7 +16,7 @@ abbrev pub letters_part : Part Bytes
 letters_part = checked (λ letters. bytes_eq letters (codes "CDF")) NotNetcdf (bytes 3 NotNetcdf)
 
 abbrev pub letters_place : Place
-letters_place = record { owner = owner.Header; name = name.Magic }
+letters_place = record { owner = owner.Header; field = field.Magic }
 
 letters-field : IsField 3 letters_part
 letters-field = decoded-field letters_in (λ letters. letters) (bytes 3 NotNetcdf) 3 (bytes-field 3 NotNetcdf)

@@ -2,7 +2,7 @@
 use Rattle.nc_fields.proofs.Prelude.{Ghosts, Window, HeadFault, Read, Outcome, left_after, OnTrue_at, OnTrue_from, IsHeld, Bytes, bytes, HeaderTruncated, Place, Number, IsFilling, ignored, Reader, Step, Checked, ends_with_nul, Owner, in_place, ℕ, List, Result, Ok, Err, subst, sym, ap, arith, refl, slice_index}
 use Rattle.nc_fields.specs.declared.entry.Content.TheVariants as content
 use Rattle.nc_fields.specs.declared.place.Owner.TheVariants as owner
-use Rattle.nc_fields.specs.declared.place.FieldName.TheVariants as name
+use Rattle.nc_fields.specs.declared.place.FieldKind.TheVariants as field
 use Rattle.nc_fields.proofs.Checks.{IsFieldOf, Matters, bytes-listed, part_lists}
 
 -- bytes that were read are held, unless memory runs out
@@ -25,10 +25,10 @@ filling-matters n filling = record { whole = λ bs. (filling n bs).0; cut = λ b
 pub filling-listed : {place : Place} (n : ℕ) → IsFilling place → IsFieldOf place n (bytes n HeaderTruncated) content.Bytes
 filling-listed n filling = bytes-listed HeaderTruncated (filling-matters n filling)
 
-pub values-listed : {o : Owner} {n : ℕ} → let place : Place = record { owner = o; name = name.Values } in IsFieldOf place n (bytes n HeaderTruncated) (λ bs. content.Values (ends_with_nul bs))
+pub values-listed : {o : Owner} {n : ℕ} → let place : Place = record { owner = o; field = field.Values } in IsFieldOf place n (bytes n HeaderTruncated) (λ bs. content.Values (ends_with_nul bs))
 values-listed = bytes-listed HeaderTruncated (record { whole = λ start. refl; cut = λ start. refl })
 
-pub version-listed : let place : Place = record { owner = owner.Header; name = name.Version } in IsFieldOf place 1 (bytes 1 HeaderTruncated) (λ bs. Number (slice_index bs 0))
+pub version-listed : let place : Place = record { owner = owner.Header; field = field.Version } in IsFieldOf place 1 (bytes 1 HeaderTruncated) (λ bs. Number (slice_index bs 0))
 version-listed = bytes-listed HeaderTruncated (record { whole = λ start. refl; cut = λ start. refl })
 
 -- bytes that are read and not returned

@@ -6,9 +6,9 @@ use Rattle.nc_base.specs.declared.fault.FormatFault.{FormatFault}
 use Rattle.nc_base.specs.Bytes.{Bytes}
 use Rattle.nc_base.specs.Parts.{Step}
 use Rattle.nc_base.specs.Parts.{Magic, VersionByte, Records, Dims, Gatts, Vars, Tag, Count, Item, Name, Length, Text, Padding, TypeCode, Values, Shape, Atts, Vsize, Begin}
-use Rattle.nc_fields.specs.declared.{place.Owner.Owner, place.FieldName.FieldName, place.Place.Place, entry.Content.Content, entry.Entry.Entry}
+use Rattle.nc_fields.specs.declared.{place.Owner.Owner, place.FieldKind.FieldKind, place.Place.Place, entry.Content.Content, entry.Entry.Entry}
 use Rattle.nc_fields.specs.declared.place.Owner.TheVariants as owner
-use Rattle.nc_fields.specs.declared.place.FieldName.TheVariants as name
+use Rattle.nc_fields.specs.declared.place.FieldKind.TheVariants as field
 use Rattle.nc_fields.specs.declared.entry.Content.TheVariants as content
 use Rattle.nc_fields.specs.Fields.{Field}
 
@@ -23,34 +23,34 @@ owner_steps (owner.Var i) = Item i ∷ Vars ∷ []
 owner_steps (owner.VarAtt i k) = Item k ∷ Atts ∷ Item i ∷ Vars ∷ []
 
 -- the steps from its owner to a field
-abbrev pub name_steps : FieldName → List Step
-name_steps name.Magic = Magic ∷ []
-name_steps name.Version = VersionByte ∷ []
-name_steps name.NumRecs = Records ∷ []
-name_steps name.DimsTag = Tag ∷ Dims ∷ []
-name_steps name.DimsCount = Count ∷ Dims ∷ []
-name_steps name.GlobalAttsTag = Tag ∷ Gatts ∷ []
-name_steps name.GlobalAttsCount = Count ∷ Gatts ∷ []
-name_steps name.VarsTag = Tag ∷ Vars ∷ []
-name_steps name.VarsCount = Count ∷ Vars ∷ []
-name_steps name.NameLength = Length ∷ Name ∷ []
-name_steps name.Name = Text ∷ Name ∷ []
-name_steps name.NamePadding = Padding ∷ Name ∷ []
-name_steps name.Length = Length ∷ []
-name_steps name.Type = TypeCode ∷ []
-name_steps name.Count = Count ∷ []
-name_steps name.Values = Values ∷ []
-name_steps name.Padding = Padding ∷ []
-name_steps name.Rank = Count ∷ Shape ∷ []
-name_steps (name.DimId k) = Item k ∷ Shape ∷ []
-name_steps name.AttsTag = Tag ∷ Atts ∷ []
-name_steps name.AttsCount = Count ∷ Atts ∷ []
-name_steps name.Vsize = Vsize ∷ []
-name_steps name.Begin = Begin ∷ []
+abbrev pub field_steps : FieldKind → List Step
+field_steps field.Magic = Magic ∷ []
+field_steps field.Version = VersionByte ∷ []
+field_steps field.NumRecs = Records ∷ []
+field_steps field.DimsTag = Tag ∷ Dims ∷ []
+field_steps field.DimsCount = Count ∷ Dims ∷ []
+field_steps field.GlobalAttsTag = Tag ∷ Gatts ∷ []
+field_steps field.GlobalAttsCount = Count ∷ Gatts ∷ []
+field_steps field.VarsTag = Tag ∷ Vars ∷ []
+field_steps field.VarsCount = Count ∷ Vars ∷ []
+field_steps field.NameLength = Length ∷ Name ∷ []
+field_steps field.Name = Text ∷ Name ∷ []
+field_steps field.NamePadding = Padding ∷ Name ∷ []
+field_steps field.Length = Length ∷ []
+field_steps field.Type = TypeCode ∷ []
+field_steps field.Count = Count ∷ []
+field_steps field.Values = Values ∷ []
+field_steps field.Padding = Padding ∷ []
+field_steps field.Rank = Count ∷ Shape ∷ []
+field_steps (field.DimId k) = Item k ∷ Shape ∷ []
+field_steps field.AttsTag = Tag ∷ Atts ∷ []
+field_steps field.AttsCount = Count ∷ Atts ∷ []
+field_steps field.Vsize = Vsize ∷ []
+field_steps field.Begin = Begin ∷ []
 
 -- the steps to the field in this place, the last one first
 abbrev pub steps_of : Place → List Step
-steps_of place = name_steps place.name ++ owner_steps place.owner
+steps_of place = field_steps place.field ++ owner_steps place.owner
 
 -- ---- contents
 

@@ -11,7 +11,7 @@ ghost use Rattle.nc_fields.specs.code.PassedValues.{ChecksValues, PassesValues};
 use crate::entry::Content;
 use crate::fields::{FieldReader, pending_field};
 use crate::list_name::HeaderList;
-use crate::place::{FieldName, Owner};
+use crate::place::{FieldKind, Owner};
 use devices::Source;
 use nc_base::{Att, Sequence, Version, padding_len};
 use nc_file::{HeadFault, Window};
@@ -34,7 +34,7 @@ impl FieldReader {
         ensures { ChecksValues (at window.old self.old) (at window.new self.new)
             (Values ∷ owner_steps owner) len result }
     {
-        let place = owner.field(FieldName::Values);
+        let place = owner.field(FieldKind::Values);
         let start = pending_field(window, place, len);
         let passed = pass_values(window, len);
         let ends_with_nul = start.list_if_cut(&mut self.entries, passed)?;
@@ -54,8 +54,8 @@ impl FieldReader {
         ensures { Checked (at window.old self.old) (at window.new self.new)
             (owner_steps owner) (att_part lenient version) result }
     {
-        let count = owner.field(FieldName::Count);
-        let padding = owner.field(FieldName::Padding);
+        let count = owner.field(FieldKind::Count);
+        let padding = owner.field(FieldKind::Padding);
         let name = self.name(window, version, owner)?;
         let ty = self.nc_type(window, version, owner)?;
         let n = self.count(window, version, count)?;

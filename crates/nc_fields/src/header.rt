@@ -21,7 +21,7 @@ use crate::fields::{FieldReader, pending_field};
 use crate::list_fault::ListFault;
 use crate::list_name::HeaderList;
 use crate::name::filling_bytes;
-use crate::place::{FieldName, Owner};
+use crate::place::{FieldKind, Owner};
 use crate::signature::{HDF5_SIGNATURE, is_hdf5_next};
 use devices::Source;
 use nc_base::{FormatFault, Header, Sequence, Version};
@@ -138,7 +138,7 @@ impl FieldReader {
             (checked (λ letters. bytes_eq letters (codes "CDF")) NotNetcdf (bytes 3 NotNetcdf))
             result }
     {
-        let place = Owner::Header.field(FieldName::Magic);
+        let place = Owner::Header.field(FieldKind::Magic);
         let start = pending_field(window, place, 3);
         let there = letters_there(window);
         let letters = start.list_if_cut(
@@ -170,7 +170,7 @@ impl FieldReader {
         ensures { Checked (at window.old self.old) (at window.new self.new)
             (VersionByte ∷ []) (bytes 1 HeaderTruncated) result }
     {
-        let place = Owner::Header.field(FieldName::Version);
+        let place = Owner::Header.field(FieldKind::Version);
         let start = pending_field(window, place, 1);
         let byte: [u8; 1] = start.list_if_cut(&mut self.entries, window.array())?;
         start.list(&mut self.entries, Content::Number(byte[0] as u64))?;

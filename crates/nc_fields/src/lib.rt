@@ -25,5 +25,5 @@ pub use entry::{Content, Entry};
 pub use field_bytes::FieldBytes;
 pub use header::{Listing, list_fields};
 pub use list_fault::ListFault;
-pub use place::{FieldName, Owner, Place};
+pub use place::{FieldKind, Owner, Place};
 pub use signature::HDF5_SIGNATURE;

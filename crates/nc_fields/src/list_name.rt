@@ -1,6 +1,6 @@
 //! The lists of a header.
 
-use crate::place::{FieldName, Owner, Place};
+use crate::place::{FieldKind, Owner, Place};
 
 /// A list of a header.
 #[derive(Clone, Copy)]
@@ -28,10 +28,10 @@ impl HeaderList {
         ensures numeric { IsNumeric result }
     {
         match self {
-            HeaderList::Dims => Owner::Header.field(FieldName::DimsTag),
-            HeaderList::GlobalAtts => Owner::Header.field(FieldName::GlobalAttsTag),
-            HeaderList::Vars => Owner::Header.field(FieldName::VarsTag),
-            HeaderList::Atts(var) => Owner::Var(var).field(FieldName::AttsTag),
+            HeaderList::Dims => Owner::Header.field(FieldKind::DimsTag),
+            HeaderList::GlobalAtts => Owner::Header.field(FieldKind::GlobalAttsTag),
+            HeaderList::Vars => Owner::Header.field(FieldKind::VarsTag),
+            HeaderList::Atts(var) => Owner::Var(var).field(FieldKind::AttsTag),
         }
     }
 
@@ -41,10 +41,10 @@ impl HeaderList {
         ensures numeric { IsNumeric result }
     {
         match self {
-            HeaderList::Dims => Owner::Header.field(FieldName::DimsCount),
-            HeaderList::GlobalAtts => Owner::Header.field(FieldName::GlobalAttsCount),
-            HeaderList::Vars => Owner::Header.field(FieldName::VarsCount),
-            HeaderList::Atts(var) => Owner::Var(var).field(FieldName::AttsCount),
+            HeaderList::Dims => Owner::Header.field(FieldKind::DimsCount),
+            HeaderList::GlobalAtts => Owner::Header.field(FieldKind::GlobalAttsCount),
+            HeaderList::Vars => Owner::Header.field(FieldKind::VarsCount),
+            HeaderList::Atts(var) => Owner::Var(var).field(FieldKind::AttsCount),
         }
     }
 

@@ -12,7 +12,7 @@ ghost use Rattle.nc_fields.specs.Lenient.{is_no_control, len_before_nul, lenient
 use crate::entry::Content;
 use crate::field_bytes::FieldBytes;
 use crate::fields::{FieldReader, pending_field};
-use crate::place::{FieldName, Owner, Place};
+use crate::place::{FieldKind, Owner, Place};
 use devices::Source;
 use nc_base::{FormatFault, Sequence, Version, padding_len};
 use nc_file::{HeadFault, Window};
@@ -55,7 +55,7 @@ impl FieldReader {
             (Text ∷ Name ∷ owner_steps owner)
             (checked may_be_name BadName (bytes n HeaderTruncated)) result }
     {
-        let place = owner.field(FieldName::Name);
+        let place = owner.field(FieldKind::Name);
         let text = self.text(window, place, n)?;
         if !may_be_name(text.as_slice()) {
             return Err(HeadFault::Format(FormatFault::BadName));
@@ -93,8 +93,8 @@ impl FieldReader {
         ensures { Checked (at window.old self.old) (at window.new self.new)
             (Name ∷ owner_steps owner) (name_part lenient version) result }
     {
-        let length = owner.field(FieldName::NameLength);
-        let padding = owner.field(FieldName::NamePadding);
+        let length = owner.field(FieldKind::NameLength);
+        let padding = owner.field(FieldKind::NamePadding);
         let n = self.count(window, version, length)?;
         let text = self.name_text(window, owner, n)?;
         self.filling(window, padding, padding_len(n as u128))?;

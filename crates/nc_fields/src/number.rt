@@ -12,7 +12,7 @@ ghost use Rattle.nc_fields.specs.code.Numbers.{width_of};
 
 use crate::entry::Content;
 use crate::fields::{FieldReader, pending_field};
-use crate::place::{FieldName, Owner, Place};
+use crate::place::{FieldKind, Owner, Place};
 use devices::Source;
 use nc_base::{Dim, FormatFault, NcType, NumRecs, Version};
 use nc_file::{HeadFault, Window, is_dimid, type_in};
@@ -133,7 +133,7 @@ impl FieldReader {
             (checked (λ len. not (has_record && (len == 0))) TwoRecordDims
             (limited_part (any_length_limit version) version)) result }
     {
-        let place = owner.field(FieldName::Length);
+        let place = owner.field(FieldKind::Length);
         let len = self.limited(window, version, place, any_length_limit(version))?;
         if has_record && len == 0 {
             return Err(HeadFault::Format(FormatFault::TwoRecordDims));
@@ -195,7 +195,7 @@ impl FieldReader {
         ensures { Checked (at window.old self.old) (at window.new self.new)
             (TypeCode ∷ owner_steps owner) (type_part lenient version) result }
     {
-        let place = owner.field(FieldName::Type);
+        let place = owner.field(FieldKind::Type);
         let code = self.number(window, place, NumberWidth::Four)?;
         Ok(sized_type_in(version, code)?)
     }
@@ -216,7 +216,7 @@ impl FieldReader {
             (Item k ∷ Shape ∷ owner_steps owner)
             (dimid_part version dims.now (k == 0)) result }
     {
-        let place = owner.field(FieldName::DimId(k));
+        let place = owner.field(FieldKind::DimId(k));
         let id = self.number(window, place, NumberWidth::of_counts(version))?;
         if !is_dimid(dims, k == 0, id) {
             return Err(HeadFault::Format(FormatFault::BadShape));
@@ -236,7 +236,7 @@ impl FieldReader {
         ensures { Checked (at window.old self.old) (at window.new self.new)
             (Begin ∷ owner_steps owner) (offset_part version) result }
     {
-        let place = owner.field(FieldName::Begin);
+        let place = owner.field(FieldKind::Begin);
         let n = self.number(window, place, NumberWidth::of_offsets(version))?;
         if version.offset_limit() <= n {
             return Err(HeadFault::Format(FormatFault::BadOffset));
@@ -255,7 +255,7 @@ impl FieldReader {
         ensures { Checked (at window.old self.old) (at window.new self.new)
             (Records ∷ []) (numrecs_part lenient version) result }
     {
-        let place = Owner::Header.field(FieldName::NumRecs);
+        let place = Owner::Header.field(FieldKind::NumRecs);
         let n = self.number(window, place, NumberWidth::of_counts(version))?;
         if n == version.streaming_mark() {
             return Ok(NumRecs::Streaming);

@@ -24,17 +24,17 @@ pub enum Owner {
 
 impl Owner {
     /// Returns the place of this field of the owner.
-    pub(crate) fn field(self, name: FieldName) -> Place
-        ensures { result ≡ record { owner = self; name = name } }
+    pub(crate) fn field(self, field: FieldKind) -> Place
+        ensures { result ≡ record { owner = self; field = field } }
     {
-        Place { owner: self, name }
+        Place { owner: self, field }
     }
 }
 
 /// A field of the header, or of a dimension, an attribute or a variable. In brackets stands what the NetCDF Classic Format Specification
 /// calls it.
 #[derive(Clone, Copy, Debug, PartialEq, Eq)]
-pub enum FieldName {
+pub enum FieldKind {
     /// The letters `CDF` (`magic`).
     Magic,
     /// The version byte (`VERSION`).
@@ -89,5 +89,5 @@ pub struct Place {
     /// What the field belongs to.
     pub owner: Owner,
     /// Which field it is.
-    pub name: FieldName,
+    pub field: FieldKind,
 }

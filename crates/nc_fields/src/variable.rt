@@ -10,7 +10,7 @@ ghost use Rattle.nc_file.specs.code.SizedVars.{IsCounted, IsCountedType, type_of
 use crate::fields::FieldReader;
 use crate::list_name::HeaderList;
 use crate::number::NumberWidth;
-use crate::place::{FieldName, Owner};
+use crate::place::{FieldKind, Owner};
 use devices::Source;
 use nc_base::{Dim, FormatFault, Sequence, Var, Version};
 use nc_file::{HeadFault, SizedType, SizedVar, Window, total_with};
@@ -57,7 +57,7 @@ impl FieldReader {
         ensures { Checked (at window.old self.old) (at window.new self.new)
             (Shape ∷ owner_steps owner) (shape_part version dims.now) result }
     {
-        let rank = owner.field(FieldName::Rank);
+        let rank = owner.field(FieldKind::Rank);
         let n = self.count(window, version, rank)?;
         self.dimids(window, version, owner, dims, n)
     }
@@ -104,7 +104,7 @@ impl FieldReader {
         ensures total { IfOk result (IsCounted dims.now total) }
     {
         let owner = Owner::Var(number);
-        let vsize = owner.field(FieldName::Vsize);
+        let vsize = owner.field(FieldKind::Vsize);
         let name = self.name(window, version, owner)?;
         let dimids = self.shape(window, version, owner, dims)?;
         let atts = self.att_list(window, version, HeaderList::Atts(number))?;

@@ -7,7 +7,7 @@ pub use Rattle.nc_layout.specs.HeaderLayout.{layout_of}
 pub use Rattle.nc_layout.specs.Slots.{padded_slab_len}
 pub use Rattle.nc_layout.specs.declared.{finding.LayoutFinding.LayoutFinding, slot.FileLayout.FileLayout, slot.Slot.Slot}
 pub use Rattle.nc_report.specs.Ahead.{ahead_of}
-pub use Rattle.nc_report.specs.AttributeRules.{attribute_finding, finding_by_name}
+pub use Rattle.nc_report.specs.AttributeRules.{attribute_finding, finding_by_kind}
 unfoldable pub use Rattle.nc_report.specs.AttributeRules.{attribute_findings}
 pub use Rattle.nc_report.specs.FieldRules.{findings_at, is_floating, is_not_nfc}
 unfoldable pub use Rattle.nc_report.specs.HeaderRules.{header_findings}

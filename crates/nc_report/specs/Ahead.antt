@@ -5,7 +5,7 @@ use Rattle.std.specs.Prelude.{Bool, true, false, ◌&&◌, List, find, Option, S
 use Rattle.std.specs.Option.{option_and_then}
 use Rattle.nc_base.specs.declared.fault.FormatFault.TheVariants.{BadType}
 use Rattle.nc_fields.specs.declared.entry.Content.TheVariants as content
-use Rattle.nc_fields.specs.declared.place.FieldName.TheVariants as name
+use Rattle.nc_fields.specs.declared.place.FieldKind.TheVariants as field
 use Rattle.nc_fields.specs.declared.place.Owner.TheVariants as owner
 use Rattle.nc_report.specs.declared.{ahead.NumberField.NumberField, ahead.ValuesAt.ValuesAt, ahead.Ahead.Ahead}
 use Rattle.nc_report.specs.Indexed.{Indexed}
@@ -18,7 +18,7 @@ is_field f = true
 
 -- the type of an attribute or a variable
 abbrev pub is_type : Indexed → Bool
-is_type f = elim f.entry.place.name [ name.Type ↦ true | _ ↦ false ]
+is_type f = elim f.entry.place.field [ field.Type ↦ true | _ ↦ false ]
 
 -- the type of a variable
 abbrev pub is_var_type : Indexed → Bool
@@ -26,11 +26,11 @@ is_var_type f = is_type f && elim f.entry.place.owner [ owner.Var i ↦ true | _
 
 -- the number of an attribute's values
 abbrev pub is_count : Indexed → Bool
-is_count f = elim f.entry.place.name [ name.Count ↦ true | _ ↦ false ]
+is_count f = elim f.entry.place.field [ field.Count ↦ true | _ ↦ false ]
 
 -- the values of an attribute
 abbrev pub is_values : Indexed → Bool
-is_values f = elim f.entry.place.name [ name.Values ↦ true | _ ↦ false ]
+is_values f = elim f.entry.place.field [ field.Values ↦ true | _ ↦ false ]
 
 -- ---- what lies ahead
 

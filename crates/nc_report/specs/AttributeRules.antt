@@ -3,9 +3,9 @@ use Rattle.std.specs.Prelude.{not, ◌==◌, ◌&&◌, Bool, true, false, if◌t
 use Rattle.std.specs.Bool.{then_some}
 use Rattle.std.specs.Option.{option_and_then}
 use Rattle.std.specs.Str.{bytes_eq}
-use Rattle.nc_fields.specs.declared.{entry.Content.Content, place.FieldName.FieldName, place.Owner.Owner}
+use Rattle.nc_fields.specs.declared.{entry.Content.Content, place.FieldKind.FieldKind, place.Owner.Owner}
 use Rattle.nc_fields.specs.declared.entry.Content.TheVariants as content
-use Rattle.nc_fields.specs.declared.place.FieldName.TheVariants as name
+use Rattle.nc_fields.specs.declared.place.FieldKind.TheVariants as field
 use Rattle.nc_fields.specs.declared.place.Owner.TheVariants as owner
 use Rattle.nc_report.specs.declared.{finding.Finding.Finding, ahead.NumberField.NumberField, ahead.ValuesAt.ValuesAt, ahead.Ahead.Ahead}
 use Rattle.nc_report.specs.declared.finding.Fact.TheVariants.{EmptyList, EmptyAttribute, TrailingNul, FillType, FillCount}
@@ -71,20 +71,20 @@ abbrev pub is_var_attribute : Owner → Bool
 is_var_attribute (owner.VarAtt i k) = true
 is_var_attribute o = false
 
--- the finding at a field of this name, if there is one
-abbrev pub finding_by_name : Bool → FieldName → Indexed → Ahead → Option Finding
-finding_by_name is_first name.DimsTag f ahead = empty_list f f.entry.content ahead.next
-finding_by_name is_first name.GlobalAttsTag f ahead = empty_list f f.entry.content ahead.next
-finding_by_name is_first name.VarsTag f ahead = empty_list f f.entry.content ahead.next
-finding_by_name is_first name.AttsTag f ahead = empty_list f f.entry.content ahead.next
-finding_by_name is_first name.Type f ahead = if is_attribute f.entry.place.owner then type_finding f.entry.content ahead else None
-finding_by_name is_first name.Name f ahead =
+-- the finding at a field of this kind, if there is one
+abbrev pub finding_by_kind : Bool → FieldKind → Indexed → Ahead → Option Finding
+finding_by_kind is_first field.DimsTag f ahead = empty_list f f.entry.content ahead.next
+finding_by_kind is_first field.GlobalAttsTag f ahead = empty_list f f.entry.content ahead.next
+finding_by_kind is_first field.VarsTag f ahead = empty_list f f.entry.content ahead.next
+finding_by_kind is_first field.AttsTag f ahead = empty_list f f.entry.content ahead.next
+finding_by_kind is_first field.Type f ahead = if is_attribute f.entry.place.owner then type_finding f.entry.content ahead else None
+finding_by_kind is_first field.Name f ahead =
     if is_var_attribute f.entry.place.owner then name_finding is_first f.entry.content ahead else None
-finding_by_name is_first place f ahead = None
+finding_by_kind is_first place f ahead = None
 
 -- the finding at one of these fields, which others of them follow
 abbrev pub attribute_finding : List Indexed → Indexed → List Indexed → Option Finding
-attribute_finding fields f after = finding_by_name (is_first fields f) f.entry.place.name f (ahead_of after)
+attribute_finding fields f after = finding_by_kind (is_first fields f) f.entry.place.field f (ahead_of after)
 
 -- all findings about lists and attributes
 unfoldable pub attribute_findings : List Indexed → List Finding

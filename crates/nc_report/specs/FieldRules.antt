@@ -9,9 +9,9 @@ use Rattle.nc_base.specs.declared.fault.FormatFault.{FormatFault}
 use Rattle.nc_base.specs.declared.fault.FormatFault.TheVariants.{NotNetcdf, FloatingType}
 use Rattle.nc_base.specs.Bytes.{Bytes}
 use Rattle.nc_base.specs.Names.{is_name}
-use Rattle.nc_fields.specs.declared.{entry.Content.Content, entry.Entry.Entry, place.FieldName.FieldName}
+use Rattle.nc_fields.specs.declared.{entry.Content.Content, entry.Entry.Entry, place.FieldKind.FieldKind}
 use Rattle.nc_fields.specs.declared.entry.Content.TheVariants as content
-use Rattle.nc_fields.specs.declared.place.FieldName.TheVariants as name
+use Rattle.nc_fields.specs.declared.place.FieldKind.TheVariants as field
 use Rattle.nc_fields.specs.Entries.{hdf5_signature}
 use Rattle.nc_report.specs.declared.{finding.Fact.Fact, finding.Finding.Finding}
 use Rattle.nc_report.specs.declared.finding.Fact.TheVariants.{Fault, Hdf5, Gzip, EmptyFile, NameCharacters, LargeCount, LongName, NotNfc, Padding, HighRank}
@@ -40,11 +40,11 @@ abbrev pub is_large_numrecs : ℕ → ℕ → Bool
 is_large_numrecs size n = is_large_count size n && not (n == 2 ^ 32 - 1)
 
 -- of a number of this many bytes
-abbrev pub number_fact : FieldName → ℕ → ℕ → Option Fact
-number_fact name.NumRecs size n = then_some (is_large_numrecs size n) LargeCount
-number_fact name.Length size n = then_some (is_large_count size n) LargeCount
-number_fact name.NameLength size n = then_some (nat_lt longest_name n) LongName
-number_fact name.Rank size n = then_some (nat_lt highest_rank n) HighRank
+abbrev pub number_fact : FieldKind → ℕ → ℕ → Option Fact
+number_fact field.NumRecs size n = then_some (is_large_numrecs size n) LargeCount
+number_fact field.Length size n = then_some (is_large_count size n) LargeCount
+number_fact field.NameLength size n = then_some (nat_lt longest_name n) LongName
+number_fact field.Rank size n = then_some (nat_lt highest_rank n) HighRank
 number_fact place size n = None
 
 -- a byte isn't 0
@@ -53,10 +53,10 @@ has_nonzero bytes = list_any (λ b. not (b == 0)) bytes
 
 -- Of bytes. A name is one that the NetCDF Classic Format Specification allows (`name`), and what fills a name or an attribute up is zeros
 -- (`padding`).
-abbrev pub bytes_fact : FieldName → Bytes → Option Fact
-bytes_fact name.Name bytes = then_some (not (is_name bytes)) NameCharacters
-bytes_fact name.NamePadding bytes = then_some (has_nonzero bytes) Padding
-bytes_fact name.Padding bytes = then_some (has_nonzero bytes) Padding
+abbrev pub bytes_fact : FieldKind → Bytes → Option Fact
+bytes_fact field.Name bytes = then_some (not (is_name bytes)) NameCharacters
+bytes_fact field.NamePadding bytes = then_some (has_nonzero bytes) Padding
+bytes_fact field.Padding bytes = then_some (has_nonzero bytes) Padding
 bytes_fact place bytes = None
 
 -- the bytes are the UTF-8 of a text that isn't in normal form NFC
@@ -64,12 +64,12 @@ abbrev pub is_not_nfc : Bytes → Bool
 is_not_nfc bytes = is_utf8 bytes && not (is_nfc (chars bytes))
 
 -- of the characters of a name. (The NetCDF Classic Format Specification wants names in normal form NFC.)
-abbrev pub form_fact : FieldName → Bytes → Option Fact
-form_fact name.Name bytes = then_some (is_not_nfc bytes) NotNfc
+abbrev pub form_fact : FieldKind → Bytes → Option Fact
+form_fact field.Name bytes = then_some (is_not_nfc bytes) NotNfc
 form_fact place bytes = None
 
--- what is odd in a content of this many bytes, as the field of this name
-abbrev pub content_facts : FieldName → ℕ → Content → List Fact
+-- what is odd in a content of this many bytes, as a field of this kind
+abbrev pub content_facts : FieldKind → ℕ → Content → List Fact
 content_facts place size (content.Number n) = option_to_list (number_fact place size n)
 content_facts place size (content.Bytes bytes) = option_to_list (bytes_fact place bytes) ++ option_to_list (form_fact place bytes)
 content_facts place size other = []
@@ -95,12 +95,12 @@ fault_fact fault c = Fault fault
 -- ---- all fields
 
 -- the facts of a field with this fault, or without one
-abbrev pub facts_with : Option FormatFault → FieldName → ℕ → Content → List Fact
+abbrev pub facts_with : Option FormatFault → FieldKind → ℕ → Content → List Fact
 facts_with (Some fault) place size c = fault_fact fault c ∷ []
 facts_with None place size c = content_facts place size c
 
 abbrev pub facts_of : Entry → List Fact
-facts_of entry = facts_with entry.fault entry.place.name entry.size entry.content
+facts_of entry = facts_with entry.fault entry.place.field entry.size entry.content
 
 abbrev pub findings_at : Indexed → List Finding
 findings_at f = map (finding f) (facts_of f.entry)
@@ -112,12 +112,12 @@ field_findings fields = flat_map findings_at fields
 -- ---- floating types
 
 -- a type code is that of float, 5, or double, 6
-abbrev pub is_floating_in : FieldName → Content → Bool
-is_floating_in name.Type (content.Number code) = (code == 5) || (code == 6)
+abbrev pub is_floating_in : FieldKind → Content → Bool
+is_floating_in field.Type (content.Number code) = (code == 5) || (code == 6)
 is_floating_in place c = false
 
 abbrev pub is_floating : Indexed → Bool
-is_floating f = is_floating_in f.entry.place.name f.entry.content
+is_floating f = is_floating_in f.entry.place.field f.entry.content
 
 -- the first floating type
 abbrev pub floating_finding : List Indexed → Option Finding

@@ -5,9 +5,9 @@ use Rattle.std.specs.Option.{option_and_then, option_map, option_map_or}
 use Rattle.std.specs.Str.{bytes_eq}
 use Rattle.nc_base.specs.Bytes.{Bytes}
 use Rattle.nc_base.specs.declared.fault.FormatFault.{FormatFault}
-use Rattle.nc_fields.specs.declared.{entry.Content.Content, entry.Entry.Entry, place.FieldName.FieldName, place.Owner.Owner}
+use Rattle.nc_fields.specs.declared.{entry.Content.Content, entry.Entry.Entry, place.FieldKind.FieldKind, place.Owner.Owner}
 use Rattle.nc_fields.specs.declared.entry.Content.TheVariants as content
-use Rattle.nc_fields.specs.declared.place.FieldName.TheVariants as name
+use Rattle.nc_fields.specs.declared.place.FieldKind.TheVariants as field
 use Rattle.nc_fields.specs.declared.place.Owner.TheVariants as owner
 use Rattle.nc_report.specs.declared.{finding.Finding.Finding, names.NameScope.NameScope}
 use Rattle.nc_report.specs.declared.names.NameScope.TheVariants.{Dims, GlobalAtts, Vars, VarAtts}
@@ -36,13 +36,13 @@ NameKey = NameScope × Bytes
 abbrev pub is_same_key : NameKey → NameKey → Bool
 is_same_key a b = is_same_list a.0 b.0 && bytes_eq a.1 b.1
 
-abbrev pub key_in : FieldName → Option FormatFault → Content → Owner → Option NameKey
-key_in name.Name None (content.Bytes bytes) o = option_map (λ list. (list, bytes)) (list_of o)
+abbrev pub key_in : FieldKind → Option FormatFault → Content → Owner → Option NameKey
+key_in field.Name None (content.Bytes bytes) o = option_map (λ list. (list, bytes)) (list_of o)
 key_in field fault c o = None
 
 -- the name that a field without a fault is, if it is one
 abbrev pub key_of : Entry → Option NameKey
-key_of entry = key_in entry.place.name entry.fault entry.content entry.place.owner
+key_of entry = key_in entry.place.field entry.fault entry.content entry.place.owner
 
 -- the field is this name
 abbrev pub has_key : NameKey → Indexed → Bool

@@ -3,8 +3,8 @@ use Rattle.std.specs.Prelude.{ℕ, ◌==◌, Bool, true, false, if◌then◌else
 use Rattle.std.specs.Option.{option_to_list}
 use Rattle.nc_base.specs.declared.{version.Version.Version}
 use Rattle.nc_base.specs.Grammar.{vsize_of}
-use Rattle.nc_fields.specs.declared.{place.FieldName.FieldName, header.Listing.Listing}
-use Rattle.nc_fields.specs.declared.place.FieldName.TheVariants as name
+use Rattle.nc_fields.specs.declared.{place.FieldKind.FieldKind, header.Listing.Listing}
+use Rattle.nc_fields.specs.declared.place.FieldKind.TheVariants as field
 use Rattle.nc_fields.specs.Entries.{number_of}
 use Rattle.nc_layout.specs.declared.{slot.FileLayout.FileLayout, finding.LayoutFinding.LayoutFinding}
 use Rattle.nc_layout.specs.declared.finding.LayoutPlace.TheVariants as places
@@ -18,21 +18,21 @@ use Rattle.nc_report.specs.Indexed.{Indexed, indexed, finding}
 
 -- ---- the fields that these findings lie at
 
-abbrev pub is_numrecs : FieldName → Bool
-is_numrecs name.NumRecs = true
+abbrev pub is_numrecs : FieldKind → Bool
+is_numrecs field.NumRecs = true
 is_numrecs field = false
 
-abbrev pub is_vsize : FieldName → Bool
-is_vsize name.Vsize = true
+abbrev pub is_vsize : FieldKind → Bool
+is_vsize field.Vsize = true
 is_vsize field = false
 
-abbrev pub is_begin : FieldName → Bool
-is_begin name.Begin = true
+abbrev pub is_begin : FieldKind → Bool
+is_begin field.Begin = true
 is_begin field = false
 
--- the fields whose name passes the test
-abbrev pub named : (FieldName → Bool) → List Indexed → List Indexed
-named test fields = filter (λ (f : Indexed). test f.entry.place.name) fields
+-- the fields whose kind passes the test
+abbrev pub named : (FieldKind → Bool) → List Indexed → List Indexed
+named test fields = filter (λ (f : Indexed). test f.entry.place.field) fields
 
 -- ---- sizes
 

@@ -6,7 +6,7 @@ ghost use Rattle.nc_report.specs.Ahead.{ahead_of, var_type_at, number_at, values
 ghost use Rattle.nc_report.specs.code.Passes.{ahead_with};
 
 use nc_base::FormatFault;
-use nc_fields::{Content, Entry, FieldName, Owner};
+use nc_fields::{Content, Entry, FieldKind, Owner};
 
 /// A field of a header that is a number.
 #[derive(Clone, Copy, Debug, PartialEq, Eq)]
@@ -67,15 +67,15 @@ impl Ahead {
     {
         let number = number_at(i, entry);
         self.next = number;
-        match entry.place.name {
-            FieldName::Type => {
+        match entry.place.field {
+            FieldKind::Type => {
                 self.type_code = number;
                 if matches!(entry.place.owner, Owner::Var(_)) {
                     self.var_type = var_type_at(i, entry);
                 }
             }
-            FieldName::Count => self.count = number,
-            FieldName::Values => self.values = values_at(i, entry),
+            FieldKind::Count => self.count = number,
+            FieldKind::Values => self.values = values_at(i, entry),
             _ => {}
         }
     }

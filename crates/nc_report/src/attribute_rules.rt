@@ -3,7 +3,7 @@
 ghost use Rattle.std.specs.Prelude.{◌≡◌, ◌++◌, OnOk};
 ghost use Rattle.std.specs.Option.{option_and_then, option_to_list};
 ghost use Rattle.nc_report.specs.Indexed.{field_at, indexed};
-ghost use Rattle.nc_report.specs.AttributeRules.{attribute_findings, empty_attribute, empty_list, fill_count, fill_finding, finding_by_name, is_attribute, is_fill_name, is_var_attribute, name_finding, trailing_nul, type_finding};
+ghost use Rattle.nc_report.specs.AttributeRules.{attribute_findings, empty_attribute, empty_list, fill_count, fill_finding, finding_by_kind, is_attribute, is_fill_name, is_var_attribute, name_finding, trailing_nul, type_finding};
 ghost use Rattle.nc_report.specs.code.FirstNames.{HasFirst, is_first_of};
 ghost use Rattle.nc_report.specs.code.Passes.{Appended};
 
@@ -12,7 +12,7 @@ use crate::finding::{Fact, Finding, finding_at, push_some};
 use crate::name_rules::is_first;
 use crate::names::FirstNames;
 use nc_base::Sequence;
-use nc_fields::{Content, Entry, FieldName, Owner};
+use nc_fields::{Content, Entry, FieldKind, Owner};
 use std::alloc::AllocError;
 
 /// The type code of `char`.
@@ -47,17 +47,17 @@ fn push_attribute_finding<'a>(
     names: &FirstNames<'a>,
     ahead: &Ahead,
 ) -> Result<(), AllocError>
-    ensures { OnOk result (found.new ≡ found.old ++ option_to_list (finding_by_name
-        (is_first_of names.now (field_at i entry.now)) entry.now.place.name (field_at i entry.now) ahead.now)) }
+    ensures { OnOk result (found.new ≡ found.old ++ option_to_list (finding_by_kind
+        (is_first_of names.now (field_at i entry.now)) entry.now.place.field (field_at i entry.now) ahead.now)) }
 {
-    match entry.place.name {
-        FieldName::DimsTag | FieldName::GlobalAttsTag | FieldName::VarsTag | FieldName::AttsTag => {
+    match entry.place.field {
+        FieldKind::DimsTag | FieldKind::GlobalAttsTag | FieldKind::VarsTag | FieldKind::AttsTag => {
             push_some(found, empty_list(i, entry, ahead.next))
         }
-        FieldName::Type if is_attribute(entry.place.owner) => {
+        FieldKind::Type if is_attribute(entry.place.owner) => {
             push_some(found, type_finding(&entry.content, ahead))
         }
-        FieldName::Name if is_var_attribute(entry.place.owner) => {
+        FieldKind::Name if is_var_attribute(entry.place.owner) => {
             push_some(found, name_finding(i, entry, names, ahead))
         }
         _ => Ok(()),

@@ -7,7 +7,7 @@ ghost use Rattle.nc_report.specs.FieldRules.{bytes_fact, content_facts, fault_fa
 
 use crate::finding::{Fact, Finding, finding_at, push_some};
 use nc_base::{FormatFault, Sequence, is_valid_name};
-use nc_fields::{Content, Entry, FieldName, HDF5_SIGNATURE};
+use nc_fields::{Content, Entry, FieldKind, HDF5_SIGNATURE};
 use std::alloc::{AllocError, Global};
 use unicode_normalization::is_nfc;
 
@@ -100,17 +100,17 @@ fn push_content_findings(
     entry: &Entry,
 ) -> Result<(), AllocError>
     ensures { OnOk result (found.new ≡ found.old
-        ++ map (finding (field_at i entry.now)) (content_facts entry.now.place.name entry.now.size entry.now.content)) }
+        ++ map (finding (field_at i entry.now)) (content_facts entry.now.place.field entry.now.size entry.now.content)) }
 {
-    let name = entry.place.name;
+    let field = entry.place.field;
     match &entry.content {
         Content::Number(n) => {
-            push_fact(found, i, entry.offset, number_fact(name, entry.size, *n))
+            push_fact(found, i, entry.offset, number_fact(field, entry.size, *n))
         }
         Content::Bytes(bytes) => {
             let bytes = bytes.as_slice();
-            push_fact(found, i, entry.offset, bytes_fact(name, bytes))?;
-            push_fact(found, i, entry.offset, form_fact(alloc, name, bytes)?)
+            push_fact(found, i, entry.offset, bytes_fact(field, bytes))?;
+            push_fact(found, i, entry.offset, form_fact(alloc, field, bytes)?)
         }
         Content::Values { .. } | Content::Cut => Ok(()),
     }
@@ -132,17 +132,17 @@ fn push_fact(
     Ok(())
 }
 
-/// Returns what is odd in the number `n`, of `size` bytes, as the field of this name: `LargeCount`, `LongName`, `HighRank` or `None`.
-fn number_fact(name: FieldName, size: u128, n: u64) -> Option<Fact>
-    ensures { result ≡ number_fact name size n }
+/// Returns what is odd in the number `n`, of `size` bytes, as the field of this kind: `LargeCount`, `LongName`, `HighRank` or `None`.
+fn number_fact(field: FieldKind, size: u128, n: u64) -> Option<Fact>
+    ensures { result ≡ number_fact field size n }
 {
-    match name {
-        FieldName::NumRecs => (is_large_count(size, n) && n != STREAMING).then_some(
+    match field {
+        FieldKind::NumRecs => (is_large_count(size, n) && n != STREAMING).then_some(
             Fact::LargeCount,
         ),
-        FieldName::Length => is_large_count(size, n).then_some(Fact::LargeCount),
-        FieldName::NameLength => (n > LONGEST_NAME).then_some(Fact::LongName),
-        FieldName::Rank => (n > HIGHEST_RANK).then_some(Fact::HighRank),
+        FieldKind::Length => is_large_count(size, n).then_some(Fact::LargeCount),
+        FieldKind::NameLength => (n > LONGEST_NAME).then_some(Fact::LongName),
+        FieldKind::Rank => (n > HIGHEST_RANK).then_some(Fact::HighRank),
         _ => None,
     }
 }
@@ -154,27 +154,27 @@ fn is_large_count(size: u128, n: u64) -> bool
     size == 4 && LARGE_COUNT <= n
 }
 
-/// Returns `NameCharacters` if the field of this name is a name and the bytes aren't a valid one, `Padding` if it is padding and they
+/// Returns `NameCharacters` if the field of this kind is a name and the bytes aren't a valid one, `Padding` if it is padding and they
 /// aren't all 0, or else `None`.
-fn bytes_fact(name: FieldName, bytes: &[u8]) -> Option<Fact>
-    ensures { result ≡ bytes_fact name bytes.now }
+fn bytes_fact(field: FieldKind, bytes: &[u8]) -> Option<Fact>
+    ensures { result ≡ bytes_fact field bytes.now }
 {
-    match name {
-        FieldName::Name => (!is_valid_name(bytes)).then_some(Fact::NameCharacters),
-        FieldName::NamePadding | FieldName::Padding => {
+    match field {
+        FieldKind::Name => (!is_valid_name(bytes)).then_some(Fact::NameCharacters),
+        FieldKind::NamePadding | FieldKind::Padding => {
             has_nonzero(bytes).then_some(Fact::Padding)
         }
         _ => None,
     }
 }
 
-/// Returns `NotNfc` if the field of this name is a name, and its bytes are valid UTF-8 that isn't in normal form NFC, or else `None`. Errs
+/// Returns `NotNfc` if the field of this kind is a name, and its bytes are valid UTF-8 that isn't in normal form NFC, or else `None`. Errs
 /// only if an allocation fails.
-fn form_fact(alloc: Global, name: FieldName, bytes: &[u8]) -> Result<Option<Fact>, AllocError>
-    ensures { IfOk result (λ fact. fact ≡ form_fact name bytes.now) }
+fn form_fact(alloc: Global, field: FieldKind, bytes: &[u8]) -> Result<Option<Fact>, AllocError>
+    ensures { IfOk result (λ fact. fact ≡ form_fact field bytes.now) }
 {
-    match name {
-        FieldName::Name => Ok(is_not_nfc(alloc, bytes)?.then_some(Fact::NotNfc)),
+    match field {
+        FieldKind::Name => Ok(is_not_nfc(alloc, bytes)?.then_some(Fact::NotNfc)),
         _ => Ok(None),
     }
 }
@@ -222,10 +222,10 @@ fn floating_finding(entries: &[Entry]) -> Option<Finding>
 
 /// Returns true if the field is a type code, and that of `float` (5) or `double` (6).
 fn is_floating(entry: &Entry) -> bool
-    ensures { result ≡ is_floating_in entry.now.place.name entry.now.content }
+    ensures { result ≡ is_floating_in entry.now.place.field entry.now.content }
 {
     match entry.content {
-        Content::Number(code) => matches!(entry.place.name, FieldName::Type)
+        Content::Number(code) => matches!(entry.place.field, FieldKind::Type)
             && (code == 5 || code == 6),
         _ => false,
     }

@@ -9,7 +9,7 @@ ghost use Rattle.nc_report.specs.code.FirstNames.{HasFirst, is_first_of};
 use crate::finding::{Fact, Finding, finding_at, push_some};
 use crate::names::{FirstNames, NameScope, list_of};
 use nc_base::Sequence;
-use nc_fields::{Content, Entry, FieldName};
+use nc_fields::{Content, Entry, FieldKind};
 use std::alloc::{AllocError, Global};
 
 /// Appends a finding at each name that an earlier element of the same list has, such as a second variable `x`. `entries` are the fields of
@@ -66,7 +66,7 @@ pub(crate) fn is_first<'a>(names: &FirstNames<'a>, i: u64, entry: &'a Entry) -> 
 fn key_of(entry: &Entry) -> Option<(NameScope, &[u8])>
     ensures { option_map (λ key. (key.0, key.1.now)) result ≡ key_of entry.now }
 {
-    if !matches!(entry.place.name, FieldName::Name) || entry.fault.is_some() {
+    if !matches!(entry.place.field, FieldKind::Name) || entry.fault.is_some() {
         return None;
     }
     let Content::Bytes(name) = &entry.content else {

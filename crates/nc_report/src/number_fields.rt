@@ -6,7 +6,7 @@ ghost use Rattle.nc_report.specs.code.WholeHeaders.{HoldsNumbers, number_field};
 
 use crate::ahead::NumberField;
 use nc_base::Sequence;
-use nc_fields::{Entry, FieldName};
+use nc_fields::{Entry, FieldKind};
 use std::alloc::{AllocError, Global};
 
 /// The fields of a header that are the number of records, the sizes (`vsize`) and the begins of the variables, in its order.
@@ -28,10 +28,10 @@ pub(crate) fn number_fields(alloc: Global, entries: &[Entry]) -> Result<NumberFi
     };
     for (index, entry) in entries.iter().enumerate() {
         let index = index as u64;
-        match entry.place.name {
-            FieldName::NumRecs => fields.numrecs.push(number_field(index, entry))?,
-            FieldName::Vsize => fields.vsizes.push(number_field(index, entry))?,
-            FieldName::Begin => fields.begins.push(number_field(index, entry))?,
+        match entry.place.field {
+            FieldKind::NumRecs => fields.numrecs.push(number_field(index, entry))?,
+            FieldKind::Vsize => fields.vsizes.push(number_field(index, entry))?,
+            FieldKind::Begin => fields.begins.push(number_field(index, entry))?,
             _ => {}
         }
     }

@@ -1,7 +1,7 @@
 -- Among the facts of an entry that the strict rules refuse is the fault with which they do, but for a floating type.
-use Rattle.nccheck_laws.proofs.Prelude.{FormatFault, BadCount, FloatingType, Entry, Content, FieldName, Owner, name_steps, owner_steps, refusal_in, Fact, facts_with, Length, bytes_eq, Fault, is_floating_in, NotNetcdf, hdf5_signature, Hdf5, Gzip, EmptyFile, gzip_signature, fault_fact, is_large_count, strict_fault, ◌≡◌, ℕ, ◌==◌, Bool, true, false, cond, List, [], ◌∷◌, ◌++◌, length, take, Option, Some, None, refl, sym, ◌∙◌, arith}
+use Rattle.nccheck_laws.proofs.Prelude.{FormatFault, BadCount, FloatingType, Entry, Content, FieldKind, Owner, field_steps, owner_steps, refusal_in, Fact, facts_with, Length, bytes_eq, Fault, is_floating_in, NotNetcdf, hdf5_signature, Hdf5, Gzip, EmptyFile, gzip_signature, fault_fact, is_large_count, strict_fault, ◌≡◌, ℕ, ◌==◌, Bool, true, false, cond, List, [], ◌∷◌, ◌++◌, length, take, Option, Some, None, refl, sym, ◌∙◌, arith}
 use Rattle.nc_fields.specs.declared.entry.Content.TheVariants as content
-use Rattle.nc_fields.specs.declared.place.FieldName.TheVariants as name
+use Rattle.nc_fields.specs.declared.place.FieldKind.TheVariants as field
 use Rattle.nccheck_laws.proofs.Refusals.{refusal_of}
 
 -- ---- the facts of one entry
@@ -12,7 +12,7 @@ length-refusal : (size n : ℕ) (o : Owner)
 length-refusal size n o = grind arith
 
 -- a field that isn't refused has no floating type
-pub quiet-type : (e : Entry) → refusal_of e ≡ None → is_floating_in e.place.name e.content ≡ false
+pub quiet-type : (e : Entry) → refusal_of e ≡ None → is_floating_in e.place.field e.content ≡ false
 quiet-type e none = grind arith
 
 -- ---- the facts of a refused entry
@@ -38,19 +38,19 @@ own-fault : (fault : FormatFault) (c : Content) → fault_among (fault_fact faul
 own-fault NotNetcdf c = fault-fact (λ x. fault_among (x ∷ []) ≡ Some NotNetcdf) NotNetcdf c refl refl refl refl
 own-fault fault c = refl
 
-pub facts-fault : (size : ℕ) (c : Content) (place : FieldName) (owner : Owner) (o : Option FormatFault) → is_floating_in place c ≡ false
-    → fault_among (facts_with o place size c) ≡ refusal_in size c (name_steps place ++ owner_steps owner) o
+pub facts-fault : (size : ℕ) (c : Content) (place : FieldKind) (owner : Owner) (o : Option FormatFault) → is_floating_in place c ≡ false
+    → fault_among (facts_with o place size c) ≡ refusal_in size c (field_steps place ++ owner_steps owner) o
 facts-fault size c place owner (Some fault) plain = own-fault fault c ∙ sym (grind arith)
-facts-fault size (content.Number n) name.NumRecs owner None plain = grind arith
-facts-fault size (content.Number n) name.Length owner None plain = rw (length-refusal size n owner) (grind arith)
-facts-fault size (content.Number n) name.NameLength owner None plain = grind arith
-facts-fault size (content.Number n) name.Rank owner None plain = grind arith
-facts-fault size (content.Number n) name.Type owner None plain = grind arith
-facts-fault size (content.Bytes bs) name.Name owner None plain = grind arith
-facts-fault size (content.Bytes bs) name.NamePadding owner None plain = grind arith
-facts-fault size (content.Bytes bs) name.Padding owner None plain = grind arith
+facts-fault size (content.Number n) field.NumRecs owner None plain = grind arith
+facts-fault size (content.Number n) field.Length owner None plain = rw (length-refusal size n owner) (grind arith)
+facts-fault size (content.Number n) field.NameLength owner None plain = grind arith
+facts-fault size (content.Number n) field.Rank owner None plain = grind arith
+facts-fault size (content.Number n) field.Type owner None plain = grind arith
+facts-fault size (content.Bytes bs) field.Name owner None plain = grind arith
+facts-fault size (content.Bytes bs) field.NamePadding owner None plain = grind arith
+facts-fault size (content.Bytes bs) field.Padding owner None plain = grind arith
 facts-fault size c place owner None plain = refl
 
-pub floating-fault : (e : Entry) (fault : FormatFault) → refusal_of e ≡ Some fault → is_floating_in e.place.name e.content ≡ true
+pub floating-fault : (e : Entry) (fault : FormatFault) → refusal_of e ≡ Some fault → is_floating_in e.place.field e.content ≡ true
     → fault ≡ FloatingType
 floating-fault e fault refused is = grind arith

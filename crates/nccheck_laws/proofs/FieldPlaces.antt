@@ -1,7 +1,7 @@
 -- Each field of a header has a place, to which the steps to the field lead. If reading stops, a field has the fault that it stops with.
-use Rattle.nccheck_laws.proofs.Prelude.{FormatFault, Dim, Version, FloatingType, Bytes, padded_total, record_vars, Step, Part, done, bytes, decoded, under, chain, Dims, Gatts, Vars, Tag, Count, Item, Name, Shape, Atts, dimension_tag, variable_tag, dim_after, dimid_after, var_after, number, limited_part, offset_part, ignored, name_part, type_part, counted, list_head, list_part, each, dim_part, dim_list, att_part, att_list, dimid_part, shape_part, var_part, var_list, version_part, magic_part, numrecs_part, header_by, Outcome, and_then, run, Owner, FieldName, steps_of, owner_steps, Field, fields, lenient, attribute_tag, att_after, Place, arith, ◌≡◌, ◌⊎◌, inr, ℕ, zero, suc, Bool, true, false, List, [], ◌∷◌, ◌++◌, length, Some, Ok, Err, refl}
+use Rattle.nccheck_laws.proofs.Prelude.{FormatFault, Dim, Version, FloatingType, Bytes, padded_total, record_vars, Step, Part, done, bytes, decoded, under, chain, Dims, Gatts, Vars, Tag, Count, Item, Name, Shape, Atts, dimension_tag, variable_tag, dim_after, dimid_after, var_after, number, limited_part, offset_part, ignored, name_part, type_part, counted, list_head, list_part, each, dim_part, dim_list, att_part, att_list, dimid_part, shape_part, var_part, var_list, version_part, magic_part, numrecs_part, header_by, Outcome, and_then, run, Owner, FieldKind, steps_of, owner_steps, Field, fields, lenient, attribute_tag, att_after, Place, arith, ◌≡◌, ◌⊎◌, inr, ℕ, zero, suc, Bool, true, false, List, [], ◌∷◌, ◌++◌, length, Some, Ok, Err, refl}
 use Rattle.nc_fields.specs.declared.place.Owner.TheVariants as owner
-use Rattle.nc_fields.specs.declared.place.FieldName.TheVariants as name
+use Rattle.nc_fields.specs.declared.place.FieldKind.TheVariants as field
 use Rattle.nccheck_laws.proofs.Leaves.{is_leaf, leaf-field}
 
 -- ---- lists of fields
@@ -94,15 +94,15 @@ shown steps (chain get p next) from placed =
 chained : {P Q : Type 0} → P → Q → P × Q
 chained one more = (one, more)
 
-abbrev at : FieldName → Owner → Place
-at n o = record { owner = o; name = n }
+abbrev at : FieldKind → Owner → Place
+at n o = record { owner = o; field = n }
 
 placed-name : (v : Version) (o : Owner) → Placed (Name ∷ owner_steps o) (name_part lenient v)
 unfolding name_part limited_part number ignored
 placed-name v o =
-    chained ((at name.NameLength o, refl), refl, grind arith)
-    (λ n. chained ((at name.Name o, refl), refl, grind arith)
-    (λ text. chained ((at name.NamePadding o, refl), refl, grind arith) (λ padding. tt)))
+    chained ((at field.NameLength o, refl), refl, grind arith)
+    (λ n. chained ((at field.Name o, refl), refl, grind arith)
+    (λ text. chained ((at field.NamePadding o, refl), refl, grind arith) (λ padding. tt)))
 
 placed-each : {A : Type 0} (steps : List Step) (element : List A → Part A)
     → ((before : List A) (k : ℕ) → Placed (Item k ∷ steps) (element before)) → (n : ℕ) (before : List A)
@@ -121,17 +121,17 @@ placed-list v tag steps element tags counts tag_at count_at one =
 placed-dims : (v : Version) → Placed (Dims ∷ []) (dim_list lenient v)
 unfolding dim_list dim_part limited_part number
 placed-dims v =
-    placed-list v dimension_tag (Dims ∷ []) (dim_after lenient v) (at name.DimsTag owner.Header) (at name.DimsCount owner.Header) refl refl
-    (λ before i. (placed-name v (owner.Dim i), λ text. (((at name.Length (owner.Dim i), refl), refl, grind arith), λ len. tt)))
+    placed-list v dimension_tag (Dims ∷ []) (dim_after lenient v) (at field.DimsTag owner.Header) (at field.DimsCount owner.Header) refl refl
+    (λ before i. (placed-name v (owner.Dim i), λ text. (((at field.Length (owner.Dim i), refl), refl, grind arith), λ len. tt)))
 
 placed-att : (v : Version) (o : Owner) → Placed (owner_steps o) (att_part lenient v)
 unfolding att_part type_part limited_part number ignored
 placed-att v o =
     chained (placed-name v o)
-    (λ text. chained ((at name.Type o, refl), refl, grind arith)
-    (λ ty. chained ((at name.Count o, refl), refl, grind arith)
-    (λ n. chained ((at name.Values o, refl), refl, grind arith)
-    (λ vals. chained ((at name.Padding o, refl), refl, grind arith) (λ padding. tt)))))
+    (λ text. chained ((at field.Type o, refl), refl, grind arith)
+    (λ ty. chained ((at field.Count o, refl), refl, grind arith)
+    (λ n. chained ((at field.Values o, refl), refl, grind arith)
+    (λ vals. chained ((at field.Padding o, refl), refl, grind arith) (λ padding. tt)))))
 
 placed-var : (v : Version) (dims : List Dim) (total i : ℕ) → Placed (Item i ∷ Vars ∷ []) (var_part lenient v dims total)
 unfolding var_part shape_part counted dimid_part att_list type_part offset_part limited_part number
@@ -139,28 +139,28 @@ placed-var v dims total i =
     let o = owner.Var i in
     chained (placed-name v o)
     (λ text. chained
-    (chained ((at name.Rank o, refl), refl, grind arith)
+    (chained ((at field.Rank o, refl), refl, grind arith)
     (λ n. placed-each (Shape ∷ Item i ∷ Vars ∷ []) (dimid_after v dims)
-    (λ before k. ((at (name.DimId k) o, refl), refl, grind arith)) n []))
+    (λ before k. ((at (field.DimId k) o, refl), refl, grind arith)) n []))
     (λ ids. chained
-    (placed-list v attribute_tag (Atts ∷ Item i ∷ Vars ∷ []) (att_after lenient v) (at name.AttsTag o) (at name.AttsCount o) refl refl
+    (placed-list v attribute_tag (Atts ∷ Item i ∷ Vars ∷ []) (att_after lenient v) (at field.AttsTag o) (at field.AttsCount o) refl refl
     (λ before k. placed-att v (owner.VarAtt i k)))
-    (λ atts. chained ((at name.Type o, refl), refl, grind arith)
-    (λ ty. chained ((at name.Vsize o, refl), refl, grind arith)
-    (λ vsize. chained ((at name.Begin o, refl), refl, grind arith) (λ begin. tt))))))
+    (λ atts. chained ((at field.Type o, refl), refl, grind arith)
+    (λ ty. chained ((at field.Vsize o, refl), refl, grind arith)
+    (λ vsize. chained ((at field.Begin o, refl), refl, grind arith) (λ begin. tt))))))
 
 whole-header : Placed [] (header_by lenient)
 unfolding header_by magic_part version_part numrecs_part att_list var_list number
 whole-header =
     let o = owner.Header in
-    chained (chained ((at name.Magic o, refl), refl, grind arith) (λ letters. ((at name.Version o, refl), refl, grind arith)))
-    (λ v. chained ((at name.NumRecs o, refl), refl, grind arith)
+    chained (chained ((at field.Magic o, refl), refl, grind arith) (λ letters. ((at field.Version o, refl), refl, grind arith)))
+    (λ v. chained ((at field.NumRecs o, refl), refl, grind arith)
     (λ numrecs. chained (placed-dims v)
     (λ dims. chained
-    (placed-list v attribute_tag (Gatts ∷ []) (att_after lenient v) (at name.GlobalAttsTag o) (at name.GlobalAttsCount o) refl refl
+    (placed-list v attribute_tag (Gatts ∷ []) (att_after lenient v) (at field.GlobalAttsTag o) (at field.GlobalAttsCount o) refl refl
     (λ before k. placed-att v (owner.GlobalAtt k)))
     (λ gatts. chained
-    (placed-list v variable_tag (Vars ∷ []) (var_after lenient v dims) (at name.VarsTag o) (at name.VarsCount o) refl refl
+    (placed-list v variable_tag (Vars ∷ []) (var_after lenient v dims) (at field.VarsTag o) (at field.VarsCount o) refl refl
     (λ before k. placed-var v dims (padded_total dims (record_vars dims before)) k))
     (λ vars. tt)))))
 

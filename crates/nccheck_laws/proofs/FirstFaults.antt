@@ -49,7 +49,7 @@ fields-tell fault i (x ∷ front) e back is =
 
 -- the first floating type
 floating-tells : (i : ℕ) (front : List Entry) (e : Entry) (back : List Entry) → All (λ (x : Entry). refusal_of x ≡ None) front
-    → is_floating_in e.place.name e.content ≡ true
+    → is_floating_in e.place.field e.content ≡ true
     → list_any (tells FloatingType e.offset) (option_to_list (floating_finding (indexed_from i (front ++ e ∷ back)))) ≡ true
 floating-tells i [] e back none is = grind (arith, nat_tests, itself FloatingType)
 floating-tells i (x ∷ front) e back none is =

@@ -1,6 +1,6 @@
 -- What a report finds about the layout is what is found in the layout of the header; so it finds that values are missing exactly if some
 -- variable of the header has a first missing value.
-use Rattle.nccheck_laws.proofs.Prelude.{FormatFault, Dim, Header, Var, Bytes, SpellsHeader, reads, stops, Listing, without_values, layout_of, slot_of, Report, indexed, layout_facts, whole_findings, IsReport, var_without_values, list_any, list_any-append, list_any-IsPermutation, strict, Entry, Content, FieldName, layout_findings, spelled-layout, Fact, Finding, Indexed, field_at, indexed_from, finding, facts_with, findings_at, field_findings, floating_findings, header_findings, vsize_findings, located, all_findings, has_any, finds, is_of_missing, is_missing, LayoutFact, LayoutFinding, ReportsTellMissingValues, is_of_layout, ◌≡◌, ℕ, ◌+◌, List, [], ◌∷◌, length, map, Ok, refl, ap, arith, Bool, false, flat_map, Option, Some, None, sym, ◌∙◌, common_steps}
+use Rattle.nccheck_laws.proofs.Prelude.{FormatFault, Dim, Header, Var, Bytes, SpellsHeader, reads, stops, Listing, without_values, layout_of, slot_of, Report, indexed, layout_facts, whole_findings, IsReport, var_without_values, list_any, list_any-append, list_any-IsPermutation, strict, Entry, Content, FieldKind, layout_findings, spelled-layout, Fact, Finding, Indexed, field_at, indexed_from, finding, facts_with, findings_at, field_findings, floating_findings, header_findings, vsize_findings, located, all_findings, has_any, finds, is_of_missing, is_missing, LayoutFact, LayoutFinding, ReportsTellMissingValues, is_of_layout, ◌≡◌, ℕ, ◌+◌, List, [], ◌∷◌, length, map, Ok, refl, ap, arith, Bool, false, flat_map, Option, Some, None, sym, ◌∙◌, common_steps}
 use Rattle.nccheck_laws.proofs.StrictHeaders.{strict-headers}
 use Rattle.nc_report.specs.declared.finding.Fact.TheVariants as fact
 use Rattle.nccheck_laws.proofs.FaultFindings.{fault-fact}
@@ -30,7 +30,7 @@ read-header bytes r h rest report spelled = grind (arith, common_steps, reads, s
 
 -- ---- findings at fields
 
-other-facts : (f : Indexed) (o : Option FormatFault) (place : FieldName) (size : ℕ) (c : Content)
+other-facts : (f : Indexed) (o : Option FormatFault) (place : FieldKind) (size : ℕ) (c : Content)
     → has_any is_layout (map (finding f) (facts_with o place size c)) ≡ false
 other-facts f (Some fault) place size c = fault-fact (λ x. has_any is_layout (finding f x ∷ []) ≡ false) fault c refl refl refl refl
 other-facts f None place size v4 = grind arith
@@ -38,7 +38,7 @@ other-facts f None place size v4 = grind arith
 other-fields : (i : ℕ) (es : List Entry) → has_any is_layout (flat_map findings_at (indexed_from i es)) ≡ false
 other-fields i [] = refl
 other-fields i (e ∷ es) =
-    grind (arith, list_any-append, other-facts (field_at i e) e.fault e.place.name e.size e.content, other-fields (i + 1) es)
+    grind (arith, list_any-append, other-facts (field_at i e) e.fault e.place.field e.size e.content, other-fields (i + 1) es)
 
 no-layout : (fs : List Finding) → has_any is_odd fs ≡ false → has_any is_layout fs ≡ false
 no-layout fs plain = fewer is_odd is_layout (λ x none. grind arith) fs plain

@@ -37,7 +37,7 @@ abbrev tells_error : Fact → Bool
 tells_error fact = is_error (severity_of (kind_of fact))
 
 own-error : (i : ℕ) (e : Entry) (o : Option FormatFault) (fault : FormatFault) → o ≡ Some fault → tells_error (fault_fact fault e.content) ≡ true
-    → has_any tells_error (map (finding (field_at i e)) (facts_with o e.place.name e.size e.content)) ≡ true
+    → has_any tells_error (map (finding (field_at i e)) (facts_with o e.place.field e.size e.content)) ≡ true
 own-error i e o fault is error = rw is (grind arith)
 
 finds-error : (len i : ℕ) (es : List Entry) (fs : List Field) (fault : FormatFault) → map seen_by es ≡ map (seen len) fs → HasFault fault fs

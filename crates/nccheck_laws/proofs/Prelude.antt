@@ -25,13 +25,13 @@ pub use Rattle.nc_base.specs.declared.{dataset.Dataset.Dataset, fault.FormatFaul
 pub use Rattle.nc_base.specs.declared.fault.FormatFault.TheVariants.{BadCount, BadName, BadTag, FloatingType, HeaderTruncated, NotNetcdf, TooLarge, TwoRecordDims}
 pub use Rattle.nc_base.specs.declared.header.NumRecs.TheVariants.{Known}
 pub use Rattle.nc_fields.proofs.Checks.{IsField, bytes-field, decoded-field, fault_in}
-pub use Rattle.nc_fields.specs.Entries.{Seen, hdf5_signature, name_steps, owner_steps, seen_by, steps_of, whole_content}
+pub use Rattle.nc_fields.specs.Entries.{Seen, hdf5_signature, field_steps, owner_steps, seen_by, steps_of, whole_content}
 unfoldable pub use Rattle.nc_fields.specs.Entries.{seen}
 pub use Rattle.nc_fields.specs.Fields.{Field}
 unfoldable pub use Rattle.nc_fields.specs.Fields.{fields}
 pub use Rattle.nc_fields.specs.Lenient.{any_length_limit, is_no_control, lenient, may_be_name}
 pub use Rattle.nc_fields.specs.Listings.{IsListing, IsOutcome}
-pub use Rattle.nc_fields.specs.declared.{entry.Content.Content, entry.Entry.Entry, header.Listing.Listing, place.FieldName.FieldName, place.Owner.Owner, place.Place.Place}
+pub use Rattle.nc_fields.specs.declared.{entry.Content.Content, entry.Entry.Entry, header.Listing.Listing, place.FieldKind.FieldKind, place.Owner.Owner, place.Place.Place}
 pub use Rattle.nc_file.proofs.PartRuns.{shorter}
 pub use Rattle.nc_layout.proofs.BlockOrder.{contains-cases, contains-filter, contains-here, contains-none, contains-there, filter-contains}
 pub use Rattle.nc_layout.proofs.HeaderSlots.{record_slots-are, record_slots-total, slots-total}
@@ -55,7 +55,7 @@ pub use Rattle.nc_layout.specs.code.Sweep.{padding_end, value_end}
 pub use Rattle.nc_layout.specs.declared.{blocks.Extent.Extent, file_end.SlabPlace.SlabPlace, finding.Block.Block, finding.LayoutFact.LayoutFact, finding.LayoutFinding.LayoutFinding, finding.Slab.Slab, slot.FileLayout.FileLayout, slot.Slot.Slot}
 pub use Rattle.nc_report.proofs.OneOrder.{UpTo, pairs-head, pairs-tail, same-lists}
 pub use Rattle.nc_report.specs.Ahead.{ahead_of, is_field, next_number, number_at}
-pub use Rattle.nc_report.specs.AttributeRules.{attribute_finding, empty_list, finding_by_name}
+pub use Rattle.nc_report.specs.AttributeRules.{attribute_finding, empty_list, finding_by_kind}
 unfoldable pub use Rattle.nc_report.specs.AttributeRules.{attribute_findings}
 pub use Rattle.nc_report.specs.FieldRules.{facts_of, facts_with, fault_fact, findings_at, floating_finding, gzip_signature, has_nonzero, is_floating_in, is_large_count}
 unfoldable pub use Rattle.nc_report.specs.FieldRules.{field_findings, floating_findings}

@@ -1,5 +1,5 @@
 -- A report finds nothing about the spelling of a header exactly if it is spelled as it is written.
-use Rattle.nccheck_laws.proofs.Prelude.{nat_tests, common_steps, option_map, list_any_none, list_any-append, list_any-IsPermutation, Var, Header, Version, Bytes, SpellsHeader, Step, vsize_of, header_by, Entry, FieldName, Owner, Field, lenient, name_steps, owner_steps, whole_content, header_fields, without_values, number_of, IsWrittenVsize, Slot, layout_of, layout_findings, Finding, Indexed, indexed_from, indexed, is_vsize, named, vsize_finding, whole_findings, vsize_findings, all_findings, is_of_spelling, padded_slab_len, padded_size, slot_of, LayoutFinding, Listing, Report, IsReport, file_of, slice_get-map, with_begins, data_of, QuietSpellingsAreCanonical, CanonicalSpellingsAreQuiet, QuietHeadersAreCanonical, GeneratedFilesHaveQuietSpellings, ◌≡◌, ◌↔◌, ℕ, suc, ◌+◌, ◌||◌, Bool, true, false, List, [], ◌∷◌, ◌++◌, length, map, Option, Some, None, Ok, refl, sym, ap, ◌∙◌, subst, arith, slice_get, IfSome, option_to_list, if◌then◌else◌}
+use Rattle.nccheck_laws.proofs.Prelude.{nat_tests, common_steps, option_map, list_any_none, list_any-append, list_any-IsPermutation, Var, Header, Version, Bytes, SpellsHeader, Step, vsize_of, header_by, Entry, FieldKind, Owner, Field, lenient, field_steps, owner_steps, whole_content, header_fields, without_values, number_of, IsWrittenVsize, Slot, layout_of, layout_findings, Finding, Indexed, indexed_from, indexed, is_vsize, named, vsize_finding, whole_findings, vsize_findings, all_findings, is_of_spelling, padded_slab_len, padded_size, slot_of, LayoutFinding, Listing, Report, IsReport, file_of, slice_get-map, with_begins, data_of, QuietSpellingsAreCanonical, CanonicalSpellingsAreQuiet, QuietHeadersAreCanonical, GeneratedFilesHaveQuietSpellings, ◌≡◌, ◌↔◌, ℕ, suc, ◌+◌, ◌||◌, Bool, true, false, List, [], ◌∷◌, ◌++◌, length, map, Option, Some, None, Ok, refl, sym, ap, ◌∙◌, subst, arith, slice_get, IfSome, option_to_list, if◌then◌else◌}
 use Rattle.nc_fields.specs.Entries.{number_of as content_number}
 use Rattle.nccheck_laws.proofs.StrictHeaders.{strict-headers}
 use Rattle.nccheck_laws.proofs.WrittenParts.{written-fields, header-canonical}
@@ -17,7 +17,7 @@ abbrev sizes_of : List Field → List ℕ
 sizes_of [] = []
 sizes_of (f ∷ fs) = if is_vsize_at f.steps then number_of f ∷ sizes_of fs else sizes_of fs
 
-same-kind : (place : FieldName) (o : Owner) → is_vsize place ≡ is_vsize_at (name_steps place ++ owner_steps o)
+same-kind : (place : FieldKind) (o : Owner) → is_vsize place ≡ is_vsize_at (field_steps place ++ owner_steps o)
 same-kind place o = grind arith
 
 -- a size of a variable is a number
@@ -32,7 +32,7 @@ named-sizes : (k : ℕ) {es : List Entry} {fs : List Field} → AreOf es fs
     → map entry_number (named is_vsize (indexed_from k es)) ≡ sizes_of fs
 named-sizes k none = refl
 named-sizes k (more {e = e} {f = f} is rest) =
-    grind (arith, common_steps, same-kind e.place.name e.place.owner, is.steps, is.content, size-number f.steps f, named-sizes (k + 1) rest)
+    grind (arith, common_steps, same-kind e.place.field e.place.owner, is.steps, is.content, size-number f.steps f, named-sizes (k + 1) rest)
 
 -- ---- sizes that are as they are written
 

@@ -1,5 +1,5 @@
 -- Which findings are faults: of those at fields alone, the ones at entries that the strict rules refuse; of all others, none.
-use Rattle.nccheck_laws.proofs.Prelude.{Contains, list_any-append, All-nil, All-cons, All-append, Contains-append_right, Version, Entry, FieldName, Listing, FormatFault, Header, layout_of, FileLayout, layout_findings, Fact, Finding, Indexed, indexed_from, indexed, each_before, facts_of, field_at, finding, findings_at, field_findings, floating_findings, is_first, attribute_findings, finding_by_name, attribute_finding, ahead_of, vsize_findings, whole_findings, is_vsize, named, vsize_finding, located, layout_facts, header_findings, all_findings, is_fault, has_any, padded_slab_len, Ahead, each_after, floating_finding, name_findings, duplicate_name, All-map, ◌≡◌, ℕ, ◌+◌, ◌||◌, ◌⊎◌, Bool, true, false, List, [], ◌∷◌, ◌++◌, flat_map, map, inl, inr, slice_get, Option, None, Result, Ok, Err, refl, sym, ◌∙◌, arith, All, option_to_list, contains-here}
+use Rattle.nccheck_laws.proofs.Prelude.{Contains, list_any-append, All-nil, All-cons, All-append, Contains-append_right, Version, Entry, FieldKind, Listing, FormatFault, Header, layout_of, FileLayout, layout_findings, Fact, Finding, Indexed, indexed_from, indexed, each_before, facts_of, field_at, finding, findings_at, field_findings, floating_findings, is_first, attribute_findings, finding_by_kind, attribute_finding, ahead_of, vsize_findings, whole_findings, is_vsize, named, vsize_finding, located, layout_facts, header_findings, all_findings, is_fault, has_any, padded_slab_len, Ahead, each_after, floating_finding, name_findings, duplicate_name, All-map, ◌≡◌, ℕ, ◌+◌, ◌||◌, ◌⊎◌, Bool, true, false, List, [], ◌∷◌, ◌++◌, flat_map, map, inl, inr, slice_get, Option, None, Result, Ok, Err, refl, sym, ◌∙◌, arith, All, option_to_list, contains-here}
 use Rattle.nc_report.specs.declared.finding.Fact.TheVariants as fact
 use Rattle.nccheck_laws.proofs.Refusals.{refusal_of}
 use Rattle.nccheck_laws.proofs.FaultFindings.{facts-fault, fault_among, quiet-type}
@@ -36,13 +36,13 @@ pub plain-names : (fs : List Indexed) → ArePlain (name_findings fs)
 unfolding name_findings
 plain-names fs = names-fail is_odd (λ n. refl) [] fs
 
-plain-by_name : (first : Bool) (place : FieldName) (f : Indexed) (ahead : Ahead) → ArePlain (option_to_list (finding_by_name first place f ahead))
+plain-by_name : (first : Bool) (place : FieldKind) (f : Indexed) (ahead : Ahead) → ArePlain (option_to_list (finding_by_kind first place f ahead))
 plain-by_name first v1 f ahead = grind arith
 
 attributes-from : (all fs : List Indexed) → ArePlain (each_before (attribute_finding all) fs)
 attributes-from all [] = refl
 attributes-from all (f ∷ after) =
-    grind (arith, list_any-append, plain-by_name (is_first all f) f.entry.place.name f (ahead_of after), attributes-from all after)
+    grind (arith, list_any-append, plain-by_name (is_first all f) f.entry.place.field f (ahead_of after), attributes-from all after)
 
 pub plain-attributes : (fs : List Indexed) → ArePlain (attribute_findings fs)
 unfolding attribute_findings
@@ -100,7 +100,7 @@ fields-lie : (Q : ℕ → Type 0) (i : ℕ) (es : List Entry) → ((e : Entry) �
     → All (FaultsLieAt Q) (flat_map findings_at (indexed_from i es))
 fields-lie Q i [] lies = All-nil (FaultsLieAt Q)
 fields-lie Q i (e ∷ es) lies =
-    let refused : (fault_among (facts_of e) ≡ None) ⊎ Q e.offset = elim (lies e (contains-here e es)) [ inl none ↦ inl (facts-fault e.size e.content e.place.name e.place.owner e.fault (quiet-type e none) ∙ none) | inr at ↦ inr at ] in
+    let refused : (fault_among (facts_of e) ≡ None) ⊎ Q e.offset = elim (lies e (contains-here e es)) [ inl none ↦ inl (facts-fault e.size e.content e.place.field e.place.owner e.fault (quiet-type e none) ∙ none) | inr at ↦ inr at ] in
     All-append (FaultsLieAt Q) (findings_at (field_at i e)) _ (facts-lie Q (field_at i e) (facts_of e) refused)
     (fields-lie Q (i + 1) es (λ x has. lies x (Contains-append_right (e ∷ []) es x has)))
 

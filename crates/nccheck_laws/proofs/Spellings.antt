@@ -1,5 +1,5 @@
 -- What is found about the spelling at whole fields: that of what fills one up a byte isn't 0, and that a list has its own tag and no elements.
-use Rattle.nccheck_laws.proofs.Prelude.{list_any-append, nat_tests, ltb-false, Header, FormatFault, Bytes, Step, Padding, Tag, Vsize, Item, Content, Entry, FieldName, Owner, Field, seen_by, steps_of, name_steps, owner_steps, whole_content, seen, bytes_of, number_of, IsWritten, IsWrittenVsize, AreWritten, Fact, Finding, Indexed, field_at, indexed_from, indexed, finding, each_before, ahead_of, finding_by_name, attribute_finding, is_first, facts_with, field_findings, attribute_findings, floating_findings, name_findings, header_findings, is_of_spelling, has_any, is_field, next_number, number_at, empty_list, has_nonzero, then_some, IsWrittenTag, ◌≡◌, ℕ, ◌+◌, ◌==◌, ◌&&◌, ◌||◌, not, Bool, false, List, [], ◌∷◌, ◌++◌, length, map, replicate, Option, None, refl, ap, ◌∙◌, arith, length-take-le, if◌then◌else◌, option_to_list, common_steps}
+use Rattle.nccheck_laws.proofs.Prelude.{list_any-append, nat_tests, ltb-false, Header, FormatFault, Bytes, Step, Padding, Tag, Vsize, Item, Content, Entry, FieldKind, Owner, Field, seen_by, steps_of, field_steps, owner_steps, whole_content, seen, bytes_of, number_of, IsWritten, IsWrittenVsize, AreWritten, Fact, Finding, Indexed, field_at, indexed_from, indexed, finding, each_before, ahead_of, finding_by_kind, attribute_finding, is_first, facts_with, field_findings, attribute_findings, floating_findings, name_findings, header_findings, is_of_spelling, has_any, is_field, next_number, number_at, empty_list, has_nonzero, then_some, IsWrittenTag, ◌≡◌, ℕ, ◌+◌, ◌==◌, ◌&&◌, ◌||◌, not, Bool, false, List, [], ◌∷◌, ◌++◌, length, map, replicate, Option, None, refl, ap, ◌∙◌, arith, length-take-le, if◌then◌else◌, option_to_list, common_steps}
 use Rattle.nc_fields.specs.declared.entry.Content.TheVariants as content
 use Rattle.nccheck_laws.proofs.QuietRules.{names-fail}
 use Rattle.nccheck_laws.proofs.Vsizes.{IsWhole, AreWhole}
@@ -57,9 +57,9 @@ fact-none : (g : Indexed) (b : Bool) (x : Fact) (others : List Fact) → is_of_s
     → any_spelling (map (finding g) (option_to_list (then_some b x) ++ others)) ≡ any_spelling (map (finding g) others)
 fact-none g v1 x others is = grind arith
 
-found-odd : (place : FieldName) (o : Owner) (size : ℕ) (g : Indexed) (f : Field) (fault : Option FormatFault) (c : Content) → fault ≡ None
-    → c ≡ whole_content (name_steps place ++ owner_steps o) f.size f.start
-    → any_spelling (map (finding g) (facts_with fault place size c)) ≡ odd_padding (name_steps place ++ owner_steps o) f
+found-odd : (place : FieldKind) (o : Owner) (size : ℕ) (g : Indexed) (f : Field) (fault : Option FormatFault) (c : Content) → fault ≡ None
+    → c ≡ whole_content (field_steps place ++ owner_steps o) f.size f.start
+    → any_spelling (map (finding g) (facts_with fault place size c)) ≡ odd_padding (field_steps place ++ owner_steps o) f
 found-odd place o size g f fault c sound is = rw (sound, is) (grind (arith, fact-none))
 
 choice-none : (b : Bool) (o : Option Finding) → any_spelling (option_to_list o) ≡ false
@@ -75,10 +75,10 @@ tag-odd : (tag : ℕ) (g : Indexed) (k : ℕ) {es : List Entry} {fs : List Field
 tag-odd tag g k none = refl
 tag-odd tag g k (more {e = e} {f = f} is rest) = grind (arith, common_steps, count-odd)
 
-list-odd : (first : Bool) (place : FieldName) (o : Owner) (g : Indexed) (k : ℕ) (es : List Entry) (f : Field) (fs : List Field)
-    → AreOf es fs → g.entry.content ≡ whole_content (name_steps place ++ owner_steps o) f.size f.start
-    → any_spelling (option_to_list (finding_by_name first place g (ahead_of (indexed_from k es))))
-    ≡ odd_list (name_steps place ++ owner_steps o) f fs
+list-odd : (first : Bool) (place : FieldKind) (o : Owner) (g : Indexed) (k : ℕ) (es : List Entry) (f : Field) (fs : List Field)
+    → AreOf es fs → g.entry.content ≡ whole_content (field_steps place ++ owner_steps o) f.size f.start
+    → any_spelling (option_to_list (finding_by_kind first place g (ahead_of (indexed_from k es))))
+    ≡ odd_list (field_steps place ++ owner_steps o) f fs
 list-odd first place o g k es f fs are is = grind (arith, tag-odd, choice-none)
 
 -- ---- what is found at all of them
@@ -90,9 +90,9 @@ unfolding field_findings
 fields-odd all k none = refl
 fields-odd all k (more {e = e} {f = f} {es = es} {fs = fs} is rest) =
     let g = field_at k e in
-    let alone = found-odd e.place.name e.place.owner e.size g f e.fault e.content is.sound is.content
+    let alone = found-odd e.place.field e.place.owner e.size g f e.fault e.content is.sound is.content
     ∙ ap (λ steps. odd_padding steps f) is.steps in
-    let lists = list-odd (is_first all g) e.place.name e.place.owner g (k + 1) es f fs rest is.content
+    let lists = list-odd (is_first all g) e.place.field e.place.owner g (k + 1) es f fs rest is.content
     ∙ ap (λ steps. odd_list steps f fs) is.steps in
     grind (arith, list_any-append, fields-odd all (k + 1) rest)
 

@@ -3,13 +3,13 @@
 use crate::files::{EMPTY_LISTS, ODD_HEADER, STREAMED_HEADER};
 use devices::{DripSource, FailWhen};
 use nc_base::{FormatFault, NumRecs, Version};
-use nc_fields::FieldName::{
+use nc_fields::FieldKind::{
     AttsCount, AttsTag, Begin, Count, DimId, DimsCount, DimsTag, GlobalAttsCount, GlobalAttsTag,
     Length, Magic, Name, NameLength, NamePadding, NumRecs as Records, Padding, Rank, Type, Values,
     VarsCount, VarsTag, Version as VersionByte, Vsize,
 };
 use nc_fields::Owner::{Dim, GlobalAtt, Header, Var, VarAtt};
-use nc_fields::{Content, Entry, FieldName, ListFault, Listing, Owner, Place, list_fields};
+use nc_fields::{Content, Entry, FieldKind, ListFault, Listing, Owner, Place, list_fields};
 use nc_report::check;
 use std::alloc::{AllocError, Global};
 use std::process::Abort;
@@ -27,7 +27,7 @@ enum Want {
 use Want::{Bytes, EndsWithNul, Number};
 
 /// A field: what it belongs to, which one it is, its offset, how many bytes it has, and its content.
-type Field = (Owner, FieldName, u64, u128, Want);
+type Field = (Owner, FieldKind, u64, u128, Want);
 
 /// The attributes of the first variable.
 const FIRST_ATT: Owner = VarAtt { var: 0, att: 0 };

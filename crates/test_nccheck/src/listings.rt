@@ -1,12 +1,12 @@
 //! What is found in small listings, by the rules of `nc_report` on fields and attributes.
 
 use nc_base::{FormatFault, Sequence};
-use nc_fields::FieldName::{
+use nc_fields::FieldKind::{
     AttsCount, AttsTag, Count, DimsCount, DimsTag, Name, NameLength, NamePadding, Padding, Rank,
     Type, Values, VarsCount, VarsTag,
 };
 use nc_fields::Owner::{Dim, GlobalAtt, Header, Var, VarAtt};
-use nc_fields::{Content, Entry, FieldBytes, FieldName, Listing, Owner, Place};
+use nc_fields::{Content, Entry, FieldBytes, FieldKind, Listing, Owner, Place};
 use nc_report::{Fact, Finding, findings_of};
 use std::alloc::{AllocError, Global};
 use std::process::Abort;
@@ -23,7 +23,7 @@ enum Given {
 use Given::{Bytes, Cut, EndsWithNul, Number};
 
 /// A field: what it belongs to, its name, and what is in it.
-type Field = (Owner, FieldName, Given);
+type Field = (Owner, FieldKind, Given);
 
 /// The fields of a listing, what is wrong with the last one, and what is found, with the indices of the fields.
 type Row = (
