@@ -25,9 +25,9 @@ pub use Rattle.nc_file.proofs.Totals.{total_of, total_of-append}
 pub use Rattle.nc_file.specs.code.Window.{Caused, FailsOnly, IsAdvanced, Kept, Read, Reads, Ready, left, next_of, source_of}
 pub use Rattle.nc_file.specs.declared.{head_fault.HeadFault.HeadFault, window.Window.Window}
 pub use Rattle.nc_file.specs.declared.head_fault.HeadFault.TheVariants.{Format, OutOfMemory, ReadFailed}
-pub use Rattle.std.proofs.Common.{Bool, Err, IfOk, List, None, Ok, Option, Result, Some, [], ap, append_assoc, ap₂, arith, codes, cond, drop, false, if◌then◌else◌, inl, inr, leb, length, length-append, length-take, map, min, nat_lt, refl, rules, slice_index, subst, suc, sym, take, take-take, take_all, true, ℕ, ◌++◌, ◌*◌, ◌+◌, ◌-◌, ◌<◌, ◌==◌, ◌∙◌, ◌∷◌, ◌≡◌, ◌≤◌}
+pub use Rattle.std.proofs.Common.{Bool, Err, IfOk, List, None, Ok, Option, Result, Some, [], ap, append_assoc, arith, codes, cond, drop, false, if◌then◌else◌, inl, inr, leb, length, length-append, length-take, map, min, nat_lt, refl, rules, slice_index, subst, suc, sym, take, take-take, take_all, true, ℕ, ◌++◌, ◌*◌, ◌+◌, ◌-◌, ◌<◌, ◌==◌, ◌∙◌, ◌∷◌, ◌≡◌, ◌≤◌}
 pub use Rattle.std.proofs.lemmas.Bool.{OnTrue_at, OnTrue_from, le-ltb, leb-false, leb-true, lt-ltb}
-pub use Rattle.std.proofs.lemmas.List.{append-nil, drop-drop, drop_min, get_or-append_right, length-drop, map-append, take-append-le, take_min}
+pub use Rattle.std.proofs.lemmas.List.{append-nil, drop-drop, drop_min, get_or-append_right, length-drop, map-append, take_min}
 pub use Rattle.std.proofs.lemmas.Result.{err_from_is_err_and}
 pub use Rattle.std.specs.Bool.{OnTrue}
 pub use Rattle.std.specs.Int.{Width, byte_len, from_be_bytes, to_be_bytes}

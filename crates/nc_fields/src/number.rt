@@ -3,7 +3,7 @@
 ghost use Rattle.std.specs.Prelude.{◌≡◌, [], ◌∷◌, ◌==◌, ◌&&◌, ◌||◌, not};
 ghost use Rattle.std.specs.Int.{byte_len, w32};
 ghost use Rattle.nc_base.specs.Grammar.{checked, count_part, dimid_part, number, limited_part, numrecs_part, offset_part, type_part};
-ghost use Rattle.nc_base.specs.Parts.{Begin, Item, Length, Records, Shape, TypeCode, Vsize};
+ghost use Rattle.nc_base.specs.Parts.{Begin, Item, Length, Records, Shape, TypeCode};
 ghost use Rattle.nc_base.specs.Versions.{count_limit, count_width, offset_width};
 ghost use Rattle.nc_base.specs.declared.fault.FormatFault.TheVariants.{BadCount, BadTag, TwoRecordDims};
 ghost use Rattle.nc_file.specs.code.Window.{Read};

@@ -13,7 +13,7 @@ pub use Rattle.nc_base.specs.Versions.{count_limit, count_width, offset_limit, o
 pub use Rattle.nc_base.specs.declared.{fault.FormatFault.FormatFault, header.Att.Att, header.Dim.Dim, header.Header.Header, header.NumRecs.NumRecs, header.Var.Var, nc_type.NcType.NcType, version.Version.Version}
 pub use Rattle.nc_base.specs.declared.fault.FormatFault.TheVariants.{HeaderTruncated, TooLarge}
 pub use Rattle.nc_file.specs.code.Begins.{after, is_below, offset_of, offset_too_large, placed}
-pub use Rattle.nc_file.specs.code.Window.{FailsOnly, IsAdvanced, IsNew, Kept, Read, Reads, Ready, Stuck, left, next_of, source_of}
+pub use Rattle.nc_file.specs.code.Window.{FailsOnly, IsAdvanced, Kept, Read, Reads, Ready, Stuck, left, next_of, source_of}
 unfoldable pub use Rattle.nc_file.specs.code.SizedVars.{total_with}
 pub use Rattle.nc_file.specs.declared.{head_fault.HeadFault.HeadFault, window.Window.Window}
 pub use Rattle.nc_file.specs.declared.head_fault.HeadFault.TheVariants.{Format, OutOfMemory, ReadFailed}
