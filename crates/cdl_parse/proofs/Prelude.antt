@@ -8,7 +8,7 @@ pub use Rattle.cdl_statements.specs.State.{Draft, State, add_constant, change_na
 unfoldable pub use Rattle.cdl_statements.specs.State.{act, add_att, add_dim, add_dimid, add_var, change_variable, type_of}
 pub use Rattle.cdl_parse.specs.code.AttributeNames.{att_names, has_attribute}
 pub use Rattle.cdl_parse.specs.code.AttributeRead.{att_read, att_said, constants_said}
-pub use Rattle.cdl_parse.specs.code.ClosingLines.{closing_after, closing_of, with_line}
+pub use Rattle.cdl_parse.specs.code.ClosingLines.{closing_after, closing_of}
 pub use Rattle.cdl_parse.specs.code.DataSections.{BeginsData, Closes, IsInDataSection, ReadsOne, TakesStatement, given_at}
 pub use Rattle.cdl_parse.specs.code.Declarations.{ReadsDimension, added, continued, declared, is_open_after, next_dimid, read_on, with_begun}
 pub use Rattle.cdl_parse.specs.code.DeclaredDatasets.{dataset_of_declared, if_sound, or_too_large}
@@ -19,7 +19,7 @@ pub use Rattle.cdl_parse.specs.code.Extents.{is_within_limits, records_for, reco
 pub use Rattle.cdl_parse.specs.code.Runs.{FailsAt, at_line, run_after}
 pub use Rattle.cdl_parse.specs.code.TakenNames.{duplicate_name_or}
 pub use Rattle.cdl_parse.specs.code.VariablePositions.{at_position}
-pub use Rattle.cdl_parse.specs.declared.{closing.PassedLines.PassedLines, declaration.PartialVariable.PartialVariable, declared_values.Declared.Declared, parse_error.ParseError.ParseError, records.RecordNeeds.RecordNeeds, variables.Variable.Variable}
+pub use Rattle.cdl_parse.specs.declared.{declaration.PartialVariable.PartialVariable, declared_values.Declared.Declared, parse_error.ParseError.ParseError, records.RecordNeeds.RecordNeeds, variables.Variable.Variable}
 pub use Rattle.cdl_statements.proofs.DimensionSteps.{first_goes, on, said_on, second_goes, shaped_on, third_goes}
 pub use Rattle.cdl_statements.proofs.Dues.{only_completes}
 pub use Rattle.cdl_statements.proofs.Listing.{value_first}

@@ -8,7 +8,7 @@ ghost use Rattle.cdl_parse.specs.code.ClosingLines.{closing_of};
 ghost use Rattle.cdl_parse.specs.code.DataSections.{Closes, ReadsDataSection, ReadsNextStatement, given_at};
 ghost use Rattle.cdl_parse.specs.code.Defined.{is_over};
 
-use crate::closing::PassedLines;
+use crate::closing::Unread;
 use crate::parse_error::ParseError;
 use crate::statement::check_statement;
 use cdl_statements::{Cutter, Section};
@@ -23,10 +23,7 @@ pub struct Values<'a> {
     pub listed: Vec<ListedArray>,
     /// The section that the next statement stands in.
     pub section: Section,
-    /// The statements that are left.
-    pub rest: Cutter<'a>,
-    /// The lines of the last two statements before these.
-    pub lines: PassedLines,
+    pub rest: Unread<'a>,
 }
 
 /// The variables while the data section is read: what each may take, and what was listed of it so far. Both lists have one element for each
@@ -48,13 +45,12 @@ struct DataStatement<'a> {
     rest: Cutter<'a>,
 }
 
-/// Reads the statements of the data section up to and including the closing brace. Returns what they list, and a cutter (a cursor in the
-/// text) after the brace, where the section is `Closed`. If no statement is left in `start`, reads nothing, and the section is `Values`.
+/// Reads the statements of the data section up to and including the closing brace. Returns what they list, and the statements after the
+/// brace, where the section is `Closed`. If no statement is left in `start`, reads nothing, and the section is `Values`.
 ///
 /// Each statement lists the values of the variable that it names, and no two of them may name the same variable (the CDL chapter of the
 /// NetCDF User's Guide, and ncgen(1)). `names` are the names of the variables, and `targets` what each may take (none is given values yet),
-/// in the same order. `before` has the lines of the last two statements before `start`. A text that ends before the closing brace has a
-/// fault at its end, since the end is no statement of this section.
+/// in the same order. A text that ends before the closing brace has a fault at its end, since the end is no statement of this section.
 ///
 /// # Errors
 ///
@@ -63,42 +59,36 @@ pub fn read_data<'a>(
     alloc: Global,
     names: &VariableNames<'_>,
     targets: Vec<Target>,
-    start: Cutter<'a>,
-    before: PassedLines,
+    start: Unread<'a>,
 ) -> Result<Values<'a>, ParseError>
-    ensures reads { ReadsDataSection start.entry names.now targets.items result }
-    ensures past { IfOk result (λ values. is_done values.rest ≡ false → is_over values.section ≡ true) }
-    ensures same { IfOk result (λ values. SameText start.entry values.rest) }
-    ensures lines { IfOk result (λ values. closing_of values.rest values.lines
-        ≡ closing_of start.entry before) }
+    ensures reads { ReadsDataSection start.entry.cutter names.now targets.items result }
+    ensures past { IfOk result (λ values. is_done values.rest.cutter ≡ false → is_over values.section ≡ true) }
+    ensures same { IfOk result (λ values. SameText start.entry.cutter values.rest.cutter) }
+    ensures line { IfOk result (λ values. closing_of values.rest ≡ closing_of start.entry) }
 {
     let arrays = empty_arrays(alloc, targets.len())?;
     let mut listings = Listings { targets, arrays };
-    let mut cutter = start;
-    let mut lines = before;
+    let mut rest = start;
     'statements: loop {
-        if cutter.is_done() {
+        if rest.cutter.is_done() {
             return Ok(Values {
                 listed: listings.arrays,
                 section: Section::Values,
-                rest: cutter,
-                lines,
+                rest,
             });
         }
-        match read_next_statement(alloc, names, &mut listings, cutter) {
+        match read_next_statement(alloc, names, &mut listings, rest.cutter) {
             Ok(passed) => {
-                lines = lines.and(cutter.line());
-                cutter = passed.rest;
+                rest = rest.past(passed.rest);
                 if passed.is_brace {
                     return Ok(Values {
                         listed: listings.arrays,
                         section: Section::Closed,
-                        rest: cutter,
-                        lines,
+                        rest,
                     });
                 }
             }
-            Err(e) => return Err(ParseError::at_line(cutter.line(), e)),
+            Err(e) => return Err(ParseError::at_line(rest.cutter.line(), e)),
         }
     }
 }

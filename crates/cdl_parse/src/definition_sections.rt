@@ -8,7 +8,7 @@ ghost use Rattle.cdl_parse.specs.code.ClosingLines.{closing_of};
 ghost use Rattle.cdl_parse.specs.code.Defined.{is_before_data, run_past};
 ghost use Rattle.cdl_parse.specs.code.Runs.{GivesOrOutOfMemory, run_from};
 
-use crate::closing::PassedLines;
+use crate::closing::Unread;
 use crate::definitions::Definitions;
 use crate::parse_error::ParseError;
 use cdl_statements::{Cutter, Section};
@@ -19,9 +19,7 @@ use std::alloc::Global;
 pub struct Defined<'a> {
     pub definitions: Definitions,
     /// The statements after these sections.
-    pub rest: Cutter<'a>,
-    /// The lines of the last two statements of these sections.
-    pub lines: PassedLines,
+    pub rest: Unread<'a>,
 }
 
 /// Reads the statements of a text up to and including `data:` or the closing brace, and returns what they declare, and a cutter (a cursor
@@ -33,29 +31,20 @@ pub struct Defined<'a> {
 pub fn read_definitions<'a>(alloc: Global, start: Cutter<'a>) -> Result<Defined<'a>, ParseError>
     ensures reads { GivesOrOutOfMemory (run_past start.entry) result (run_from start.entry empty) }
     ensures shaped { IfOk result (λ d. AreShaped d.definitions.dims d.definitions.variables) }
-    ensures ends { IfOk result (λ d. is_done d.rest ≡ false
+    ensures ends { IfOk result (λ d. is_done d.rest.cutter ≡ false
         → is_before_data d.definitions.section ≡ false) }
-    ensures same { IfOk result (λ d. SameText start.entry d.rest) }
-    ensures lines { IfOk result (λ d. closing_of d.rest d.lines
-        ≡ closing_line (pieces_left start.entry)) }
+    ensures same { IfOk result (λ d. SameText start.entry d.rest.cutter) }
+    ensures line { IfOk result (λ d. closing_of d.rest ≡ closing_line (pieces_left start.entry)) }
 {
     let mut definitions = Definitions::new(alloc);
-    let mut cutter = start;
-    let mut lines = PassedLines::none();
+    let mut rest = Unread::all(start);
     'statements: loop {
-        if cutter.is_done() || !is_before_data(definitions.section) {
-            return Ok(Defined {
-                definitions,
-                rest: cutter,
-                lines,
-            });
+        if rest.cutter.is_done() || !is_before_data(definitions.section) {
+            return Ok(Defined { definitions, rest });
         }
-        match definitions.read_statement(alloc, cutter) {
-            Ok(rest) => {
-                lines = lines.and(cutter.line());
-                cutter = rest;
-            }
-            Err(e) => return Err(ParseError::at_line(cutter.line(), e)),
+        match definitions.read_statement(alloc, rest.cutter) {
+            Ok(after) => rest = rest.past(after),
+            Err(e) => return Err(ParseError::at_line(rest.cutter.line(), e)),
         }
     }
 }

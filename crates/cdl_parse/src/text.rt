@@ -9,7 +9,7 @@ ghost use Rattle.cdl_parse.specs.code.DeclaredDatasets.{dataset_of_declared};
 ghost use Rattle.cdl_parse.specs.code.Parsing.{MeansOrOutOfMemory, ReadsAll, ReadsAsDefined, as_dataset, fault_of};
 ghost use Rattle.cdl_parse.specs.code.Runs.{GivesOrOutOfMemory, run_from};
 
-use crate::closing::PassedLines;
+use crate::closing::Unread;
 use crate::data_section::{Values, empty_arrays, read_data};
 use crate::declared_values::Declared;
 use crate::definition_sections::{Defined, read_definitions};
@@ -121,11 +121,7 @@ fn read_contents(alloc: Global, start: Cutter<'_>) -> Result<Contents, ParseErro
         → ReadsAll result (run_from start.entry empty) }
     ensures line { IfOk result (λ c. c.closing_line ≡ closing_line (pieces_left start.entry)) }
 {
-    let Defined {
-        definitions,
-        rest,
-        lines,
-    } = read_definitions(alloc, start)?;
+    let Defined { definitions, rest } = read_definitions(alloc, start)?;
     let Definitions {
         section,
         dims,
@@ -141,9 +137,8 @@ fn read_contents(alloc: Global, start: Cutter<'_>) -> Result<Contents, ParseErro
         &VariableNames::new(vars.as_slice(), &names),
         rest,
         section,
-        lines,
     )?;
-    let closing_line = check_end(values.rest, values.section, values.lines)?;
+    let closing_line = check_end(values.rest, values.section)?;
     Ok(Contents {
         dims,
         gatts: gatts.into_sequence(),
@@ -156,35 +151,32 @@ fn read_contents(alloc: Global, start: Cutter<'_>) -> Result<Contents, ParseErro
 /// Reads the data section, if the text has one: if `section`, the section of the next statement, is `Values`. Finds out by `dims` how many
 /// values each of `vars` may take ([`targets_of`]), and reads the statements by [`read_data`]. Returns the values that the section lists of
 /// each variable, and what comes after it. Without a data section, it reads nothing, and returns an array without values for each
-/// variable, and `section`, `start` and `before` as they are. `dims` and `vars` are those of the text, `names` are the names of `vars`, and
-/// `before` has the lines of the last two statements before `start`. If a statement is left, needs a `section` that is none of those before
-/// the data section. Errs with the fault of the first bad statement, or if an allocation failed.
+/// variable, and `section` and `start` as they are. `dims` and `vars` are those of the text, and `names` are the names of `vars`. If a
+/// statement is left, needs a `section` that is none of those before the data section. Errs with the fault of the first bad statement, or
+/// if an allocation failed.
 fn read_values<'a>(
     alloc: Global,
     dims: &[Dim],
     vars: &[Var],
     names: &VariableNames<'_>,
-    start: Cutter<'a>,
+    start: Unread<'a>,
     section: Section,
-    before: PassedLines,
 ) -> Result<Values<'a>, ParseError>
-    requires { is_done start ≡ false → is_before_data section ≡ false }
-    ensures reads { ReadsAsDefined start.entry dims.now vars.now names.now section result }
-    ensures past { IfOk result (λ values. is_done values.rest ≡ false → is_over values.section ≡ true) }
-    ensures same { IfOk result (λ values. SameText start.entry values.rest) }
-    ensures lines { IfOk result (λ values. closing_of values.rest values.lines
-        ≡ closing_of start.entry before) }
+    requires { is_done start.cutter ≡ false → is_before_data section ≡ false }
+    ensures reads { ReadsAsDefined start.entry.cutter dims.now vars.now names.now section result }
+    ensures past { IfOk result (λ values. is_done values.rest.cutter ≡ false → is_over values.section ≡ true) }
+    ensures same { IfOk result (λ values. SameText start.entry.cutter values.rest.cutter) }
+    ensures line { IfOk result (λ values. closing_of values.rest ≡ closing_of start.entry) }
 {
     match section {
         Section::Values => {
             let targets = targets_of(alloc, dims, vars)?;
-            read_data(alloc, names, targets, start, before)
+            read_data(alloc, names, targets, start)
         }
         _ => Ok(Values {
             listed: empty_arrays(alloc, vars.len())?,
             section,
             rest: start,
-            lines: before,
         }),
     }
 }

@@ -7,39 +7,36 @@ ghost use Rattle.cdl_parse.specs.code.ClosingLines.{closing_of};
 ghost use Rattle.cdl_parse.specs.code.Defined.{EndsAs, is_over};
 ghost use Rattle.cdl_parse.specs.code.Runs.{run_from};
 
-use crate::closing::PassedLines;
+use crate::closing::Unread;
 use crate::statement::check_statement;
-use cdl_statements::{CdlFault, Cutter, Section};
+use cdl_statements::{CdlFault, Section};
 
 /// Checks that after the closing brace only the end of the text comes, and returns the line of the brace. `start` has the statements after
 /// the brace. `section` is that of the next one, `Closed` if the end is still to come; needs `Closed` or `Ended`, unless no statement is
-/// left. `before` has the lines of the last two statements before `start`: the line of the brace follows from them, since the brace is the
-/// last statement but one. Does not allocate.
+/// left. Does not allocate.
 ///
 /// # Errors
 ///
 /// The fault of the first bad statement (`BadToken`, `BadNumber` or `Syntax`), with its line.
-pub fn check_end(start: Cutter<'_>, section: Section, before: PassedLines) -> Result<u64, CdlFault>
-    requires { is_done start ≡ false → is_over section ≡ true }
-    ensures ends { (s : State) → s.section ≡ section → EndsAs s result (run_from start.entry s) }
-    ensures line { IfOk result (λ line. line ≡ closing_of start.entry before) }
+pub fn check_end(start: Unread<'_>, section: Section) -> Result<u64, CdlFault>
+    requires { is_done start.cutter ≡ false → is_over section ≡ true }
+    ensures ends { (s : State) → s.section ≡ section → EndsAs s result (run_from start.entry.cutter s) }
+    ensures line { IfOk result (λ line. line ≡ closing_of start.entry) }
 {
-    let mut cutter = start;
+    let mut rest = start;
     let mut here = section;
-    let mut lines = before;
     'statements: loop {
-        if cutter.is_done() {
-            return Ok(lines.closing());
+        if rest.cutter.is_done() {
+            return Ok(rest.closing_line());
         }
-        match check_statement(cutter, here) {
-            Ok(rest) => {
-                lines = lines.and(cutter.line());
-                cutter = rest;
+        match check_statement(rest.cutter, here) {
+            Ok(after) => {
+                rest = rest.past(after);
                 here = Section::Ended;
             }
             Err(kind) => {
                 return Err(CdlFault {
-                    line: cutter.line(),
+                    line: rest.cutter.line(),
                     kind,
                 });
             }

@@ -69,8 +69,8 @@ pub fn put_token(
 
 /// Appends to `array` the bytes of the token's value, or nothing if the token is a mark, and checks the token, unlike [`put_token`].
 /// Returns what is left of `capacity` (how many more values the variable takes in the form `form`). Errs with `Unnamed` if the token has a
-/// fault, such as a suffix that `version` doesn't have, or if its value has one, and with `OutOfMemory` if an allocation failed; either way,
-/// bytes of the value may be appended.
+/// fault, such as a suffix that `version` doesn't have, or if its value has one, and with `OutOfMemory` if an allocation failed; either
+/// way, bytes of the value may be appended.
 #[inline]
 #[tactic(auto, using(cdl_statements::proofs::Listing::past_mark))]
 pub fn put_checked_token(

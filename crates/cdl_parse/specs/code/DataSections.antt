@@ -59,7 +59,7 @@ ReadsNextStatement start names before after result =
 abbrev pub ReadsValues : List Var → Cutter → State → Result Values ParseError → Type 0
 ReadsValues vars start s (Ok values) =
     (drafts : List Draft) × AllList vars values.listed.items drafts ×
-    (run (text_of start) (version_of start) s (pieces_left start) ≡ run (text_of start) (version_of start) (record s { section = values.section; drafts = drafts }) (pieces_left values.rest))
+    (run (text_of start) (version_of start) s (pieces_left start) ≡ run (text_of start) (version_of start) (record s { section = values.section; drafts = drafts }) (pieces_left values.rest.cutter))
 ReadsValues vars start s (Err e) = FailsAt e (run (text_of start) (version_of start) s (pieces_left start))
 
 -- the same in each state that begins the section so

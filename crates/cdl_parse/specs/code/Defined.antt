@@ -66,4 +66,4 @@ EndsAs s (Err fault) read = read ≡ Err fault
 
 -- the statements after those that define, from the state that they make
 abbrev pub run_past : Cutter → Defined → Result State CdlFault
-run_past start d = run (text_of start) (version_of start) (state_of d.definitions) (pieces_left d.rest)
+run_past start d = run (text_of start) (version_of start) (state_of d.definitions) (pieces_left d.rest.cutter)

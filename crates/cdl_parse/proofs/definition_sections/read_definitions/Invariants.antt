@@ -3,12 +3,12 @@ use Rattle.cdl_parse.proofs.definition_sections.read_definitions.Given as goal
 
 abbrev pub invariant-statements : goal.invariant-statements
 invariant-statements l = record {
-  text : text_of l.cutter ≡ text_of l.fn.start;
-  version : version_of l.cutter ≡ version_of l.fn.start;
+  text : text_of l.rest.cutter ≡ text_of l.fn.start;
+  version : version_of l.rest.cutter ≡ version_of l.fn.start;
   fit : AreFit (state_of l.definitions);
-  runs : run (text_of l.fn.start) (version_of l.fn.start) empty (pieces_left l.fn.start) ≡ run (text_of l.fn.start) (version_of l.fn.start) (state_of l.definitions) (pieces_left l.cutter);
-  lines : closing_of l.cutter l.lines ≡ closing_line (pieces_left l.fn.start);
+  runs : run (text_of l.fn.start) (version_of l.fn.start) empty (pieces_left l.fn.start) ≡ run (text_of l.fn.start) (version_of l.fn.start) (state_of l.definitions) (pieces_left l.rest.cutter);
+  line : closing_of l.rest ≡ closing_line (pieces_left l.fn.start);
 }
 
 abbrev pub decreases-statements : goal.decreases-statements
-decreases-statements l = length (pieces_left l.cutter)
+decreases-statements l = length (pieces_left l.rest.cutter)

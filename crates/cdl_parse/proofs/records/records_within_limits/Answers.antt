@@ -1,4 +1,4 @@
-use Rattle.cdl_parse.proofs.Prelude.{◌≡◌, ◌∙◌, sym, None, Some, rules}
+use Rattle.cdl_parse.proofs.Prelude.{◌≡◌, ◌∙◌, sym, None, rules}
 use Rattle.cdl_parse.proofs.SizeLimits.{each_some, none_kept, some_kept}
 use Rattle.cdl_parse.proofs.records.records_within_limits.Goals as goal
 

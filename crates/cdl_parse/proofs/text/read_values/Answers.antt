@@ -13,7 +13,7 @@ returns-in_ok-targets-in-Values-clause-reads c = λ s here at.
 
 pub returns-in_ok-empty_arrays-in_default : goal.returns-in_ok-empty_arrays-in_default
 returns-in_ok-empty_arrays-in_default c =
-    let start = c.args.start in
+    let start = c.args.start.cutter in
     let vars = c.args.vars.now in
     let empty : c.in_ok-empty_arrays-in_default.field-0.items ≡ replicate (length vars) [] = c.in_ok-empty_arrays-in_default.ensures in
     record {
@@ -25,5 +25,5 @@ returns-in_ok-empty_arrays-in_default c =
       );
       past = λ more. past_values c.args.section (c.requires more) c.in_default.not-Values;
       same = record { text = refl; version = refl };
-      lines = refl;
+      line = refl;
     }

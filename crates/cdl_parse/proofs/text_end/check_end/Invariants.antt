@@ -3,13 +3,13 @@ use Rattle.cdl_parse.proofs.text_end.check_end.Given as goal
 
 abbrev pub invariant-statements : goal.invariant-statements
 invariant-statements l = record {
-  text : text_of l.cutter ≡ text_of l.fn.start;
-  version : version_of l.cutter ≡ version_of l.fn.start;
-  past : is_done l.cutter ≡ false → is_over l.here ≡ true;
+  text : text_of l.rest.cutter ≡ text_of l.fn.start.cutter;
+  version : version_of l.rest.cutter ≡ version_of l.fn.start.cutter;
+  past : is_done l.rest.cutter ≡ false → is_over l.here ≡ true;
   runs : (s : State) → s.section ≡ l.fn.section →
-      run (text_of l.fn.start) (version_of l.fn.start) s (pieces_left l.fn.start) ≡ run (text_of l.fn.start) (version_of l.fn.start) (record s { section = l.here }) (pieces_left l.cutter);
-  lines : closing_of l.cutter l.lines ≡ closing_of l.fn.start l.fn.before;
+      run (text_of l.fn.start.cutter) (version_of l.fn.start.cutter) s (pieces_left l.fn.start.cutter) ≡ run (text_of l.fn.start.cutter) (version_of l.fn.start.cutter) (record s { section = l.here }) (pieces_left l.rest.cutter);
+  line : closing_of l.rest ≡ closing_of l.fn.start;
 }
 
 abbrev pub decreases-statements : goal.decreases-statements
-decreases-statements l = length (pieces_left l.cutter)
+decreases-statements l = length (pieces_left l.rest.cutter)
