@@ -62,7 +62,7 @@ pub fn read_data<'a>(
     start: Unread<'a>,
 ) -> Result<Values<'a>, ParseError>
     ensures reads { ReadsDataSection start.entry.cutter names.now targets.items result }
-    ensures past { IfOk result (λ values. is_done values.rest.cutter ≡ false → is_over values.section ≡ true) }
+    ensures past { IfOk result (λ v. is_done v.rest.cutter ≡ false → is_over v.section ≡ true) }
     ensures same { IfOk result (λ values. SameText start.entry.cutter values.rest.cutter) }
     ensures line { IfOk result (λ values. closing_of values.rest ≡ closing_of start.entry) }
 {

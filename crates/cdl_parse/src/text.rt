@@ -164,7 +164,7 @@ fn read_values<'a>(
 ) -> Result<Values<'a>, ParseError>
     requires { is_done start.cutter ≡ false → is_before_data section ≡ false }
     ensures reads { ReadsAsDefined start.entry.cutter dims.now vars.now names.now section result }
-    ensures past { IfOk result (λ values. is_done values.rest.cutter ≡ false → is_over values.section ≡ true) }
+    ensures past { IfOk result (λ v. is_done v.rest.cutter ≡ false → is_over v.section ≡ true) }
     ensures same { IfOk result (λ values. SameText start.entry.cutter values.rest.cutter) }
     ensures line { IfOk result (λ values. closing_of values.rest ≡ closing_of start.entry) }
 {
