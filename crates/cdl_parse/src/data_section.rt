@@ -10,8 +10,7 @@ ghost use Rattle.cdl_parse.specs.code.Defined.{is_over};
 
 use crate::closing::Unread;
 use crate::parse_error::ParseError;
-use crate::statement::check_statement;
-use cdl_statements::{Cutter, Section};
+use cdl_statements::{Cutter, Section, check_statement};
 use cdl_values::{ReadError, Target, VariableNames, read_data_statement};
 use nc_base::ListedArray;
 use std::alloc::{AllocError, Global};

@@ -13,9 +13,8 @@ use crate::attributes::Attributes;
 use crate::declaration::read_declaration;
 use crate::dimension_list::read_dimensions;
 use crate::dimensions::Dimensions;
-use crate::statement::check_statement;
 use crate::variables::Variables;
-use cdl_statements::{Cutter, Lexeme, Section};
+use cdl_statements::{Cutter, Lexeme, Section, check_statement};
 use cdl_values::ReadError;
 use std::alloc::Global;
 

@@ -31,7 +31,6 @@ mod dimensions;
 mod finishing;
 mod parse_error;
 mod records;
-mod statement;
 mod taken_name;
 mod text;
 mod text_end;

@@ -8,8 +8,7 @@ ghost use Rattle.cdl_parse.specs.code.Defined.{EndsAs, is_over};
 ghost use Rattle.cdl_parse.specs.code.Runs.{run_from};
 
 use crate::closing::Unread;
-use crate::statement::check_statement;
-use cdl_statements::{CdlFault, Section};
+use cdl_statements::{CdlFault, Section, check_statement};
 
 /// Checks that after the closing brace only the end of the text comes, and returns the line of the brace. `start` has the statements after
 /// the brace. `section` is that of the next one, `Closed` if the end is still to come; needs `Closed` or `Ended`, unless no statement is

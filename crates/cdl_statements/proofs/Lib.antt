@@ -19,3 +19,4 @@ pub mod Results
 pub mod Rows
 pub mod ListedValues
 pub mod Meanings
+pub mod StatementReads

@@ -32,5 +32,5 @@ pub use fault::{CdlFault, CdlKind};
 pub use lexeme::Lexeme;
 pub use piece::{CutState, Role, Step};
 pub use section::Section;
-pub use shape_check::{pass_statement, token_fault};
+pub use shape_check::{check_statement, pass_statement, token_fault};
 pub use value_list::ValueList;

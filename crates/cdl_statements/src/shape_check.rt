@@ -3,7 +3,8 @@
 ghost use Rattle.std.specs.Prelude.{◌≡◌, IfErr, IfOk, None, OnOk, Some, false, true};
 ghost use Rattle.cdl_statements.specs.code.Cutters.{Follows, is_done, version_of, words};
 ghost use Rattle.cdl_statements.specs.code.DueTokens.{completes};
-ghost use Rattle.cdl_statements.specs.code.ShapeFaults.{shape_fault_of};
+ghost use Rattle.cdl_statements.specs.State.{State};
+ghost use Rattle.cdl_statements.specs.code.ShapeFaults.{ActsAsSaid, shape_fault_of};
 ghost use Rattle.cdl_statements.specs.Shapes.{first_bad, token_fault};
 
 use crate::cutter::Cutter;
@@ -11,6 +12,7 @@ use crate::due::Due;
 use crate::fault::CdlKind;
 use crate::lexeme::Lexeme;
 use crate::passing::pass_values;
+use crate::section::Section;
 use cdl_tokens::{TokenKind, number_of_token};
 use nc_base::Version;
 
@@ -48,6 +50,23 @@ pub fn pass_statement(start: Cutter<'_>, first: Due) -> Result<Cutter<'_>, CdlKi
         }
         pass_values(&mut cutter, due);
     }
+}
+
+/// Checks that the tokens of the next statement are good ones, in an order that `section` allows (the shape of a statement). Returns a
+/// cutter (a cursor in the text) at the statement after it. What the statement says, such as its names, isn't checked. Needs a statement
+/// that is left. Does not allocate.
+///
+/// # Errors
+///
+/// The fault of the statement's first bad token (`BadToken`) or bad number (`BadNumber`); or `Syntax` if the statement has no shape of this
+/// section.
+pub fn check_statement(start: Cutter<'_>, section: Section) -> Result<Cutter<'_>, CdlKind>
+    requires { is_done start ≡ false }
+    ensures passes { (s : State) → s.section ≡ section → ActsAsSaid start.entry s result }
+    ensures whole { IfOk result (λ c. completes (Due.First section) (words start.entry) ≡ true) }
+    ensures rest { IfOk result (λ c. Follows start.entry c) }
+{
+    pass_statement(start, Due::First(section))
 }
 
 /// Returns the fault that a token has by itself, wherever it stands: `BadToken` for a bad token, `BadNumber` for a number token that is no

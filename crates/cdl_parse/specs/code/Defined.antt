@@ -49,11 +49,6 @@ said_next start section s = act (version_of start) s (statement_said (version_of
 abbrev pub said_by : Cutter → Section → Definitions → Result State CdlKind
 said_by start section d = said_next start section (state_of d)
 
--- the statement does what it says; or it has the fault, before it does anything
-abbrev pub ActsAsSaid : {C : Type 0} → Cutter → State → Result C CdlKind → Type 0
-ActsAsSaid start s (Ok rest) = after_statement start s ≡ said_next start s.section s
-ActsAsSaid start s (Err kind) = after_statement start s ≡ Err kind
-
 -- with an Ok the statement makes this state; a fault is its fault
 abbrev pub Makes : {B : Type 0} → State → Result B ReadError → Result State CdlKind → Type 0
 Makes after (Ok b) read = read ≡ Ok after
