@@ -206,8 +206,8 @@ fn is_content(content: &Content, want: Want) -> bool {
 
 /// Returns true if the entry is this field, and isn't wrong.
 fn is_entry(entry: &Entry, field: &Field) -> bool {
-    let (owner, name, offset, size, want) = *field;
-    entry.place == (Place { owner, name })
+    let (owner, kind, offset, size, want) = *field;
+    entry.place == (Place { owner, field: kind })
         && entry.offset == offset
         && entry.size == size
         && is_content(&entry.content, want)
@@ -267,8 +267,8 @@ fn is_entry_up_to(entry: &Entry, field: &Field, at: u64) -> bool {
     if ends_by(field, at) {
         return is_entry(entry, field);
     }
-    let (owner, name, offset, size, _) = *field;
-    entry.place == (Place { owner, name })
+    let (owner, kind, offset, size, _) = *field;
+    entry.place == (Place { owner, field: kind })
         && entry.offset == offset
         && entry.size == size
         && matches!(&entry.content, Content::Cut)

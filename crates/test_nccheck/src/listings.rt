@@ -247,7 +247,7 @@ fn listed(
         entries.push(Entry {
             place: Place {
                 owner: field.0,
-                name: field.1,
+                field: field.1,
             },
             offset: (i as u64).wrapping_mul(10),
             size: 0,
