@@ -6,6 +6,7 @@ pub mod PathLemmas
 pub mod SizeLaws
 pub mod SoundLaws
 pub mod Found
+pub mod Extents
 pub mod PartOutcomes
 pub mod PartPlaces
 pub mod PartLens

@@ -16,8 +16,9 @@ pub use Rattle.nc_base.specs.Names.{IsName}
 pub use Rattle.nc_base.specs.Numbers.{bytes_of_number, number_of, numbers_from}
 unfoldable pub use Rattle.nc_base.specs.Numbers.{numbers}
 pub use Rattle.nc_base.specs.Places.{bytes_at, distance, ends_after, first_missing, slab_strides, stored_bytes, stored_values, vectors_below}
+pub use Rattle.nc_base.specs.code.Extents.{extent_end, end_after}
 unfoldable pub use Rattle.nc_base.specs.Places.{value_offsets}
-pub use Rattle.nc_base.specs.code.SizeParts.{checked_record_size, least_record_begin, has_small_slab, is_fixed_dim, min_begin, slab_at}
+pub use Rattle.nc_base.specs.code.SizeParts.{checked_record_size, extent_sum, least_record_begin, has_small_slab, is_fixed_dim, min_begin, slab_at}
 pub use Rattle.nc_base.specs.Types.{code_of, size_of}
 pub use Rattle.nc_base.specs.HeadText.{without_trailing_nuls}
 pub use Rattle.nc_base.specs.ValueText.{Look, begins_row, char_lead, column, is_char, number_text, printed_bytes, row_len, row_text}
@@ -45,7 +46,7 @@ pub use Rattle.std.proofs.lemmas.Nat.{be_bytes_2, be_bytes_4, be_bytes_8, div-mu
 pub use Rattle.std.specs.Fmt.{decimal, digit_glyph, digits_onto}
 unfoldable pub use Rattle.std.specs.Fmt.{digits}
 pub use Rattle.std.specs.Int.{Width, byte_len, cast_signed, cast_unsigned, from_be_bytes, to_be_bytes, w16, w32, w64, w8}
-pub use Rattle.std.specs.List.{after_last, before_last, concat, count_by, flat_map, list_all, list_any, position, position_or_len, range_with_len, suffix_len, sum_by}
+pub use Rattle.std.specs.List.{after_last, before_last, concat, count_by, flat_map, last_or, list_all, list_any, position, position_or_len, range_with_len, suffix_len, sum_by}
 pub use Rattle.std.specs.Str.{IsUtf8, bytes_eq}
 unfoldable pub use Rattle.std.specs.Str.{chars, is_utf8}
 pub use Rattle.nc_base.proofs.Tests.{and_left, and_right, and_both, not_none, some_right}

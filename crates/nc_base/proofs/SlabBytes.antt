@@ -6,7 +6,7 @@ use Rattle.nc_base.proofs.WholeValues.{none-found}
 -- ---- index vectors whose first index goes over some rows
 
 -- the offset of a value after a base
-abbrev at : ℕ → List ℕ → List ℕ → ℕ
+abbrev pub at : ℕ → List ℕ → List ℕ → ℕ
 at base strides index = base + distance index strides
 
 -- the bytes of the values at these index vectors
@@ -55,12 +55,12 @@ slab-run size b base (n ∷ lens) =
 -- ---- of a variable
 
 -- the offsets of its values, by whether it has records
-fixed-offsets : (h : Header) (var : Var) (n : ℕ) → is_record_var h.dims var ≡ false
+pub fixed-offsets : (h : Header) (var : Var) (n : ℕ) → is_record_var h.dims var ≡ false
     → value_offsets h var n ≡ map (at var.begin_at (slab_strides (size_of var.ty) (slab_lens h.dims var.dimids))) (vectors_below (slab_lens h.dims var.dimids))
 unfolding value_offsets
 fixed-offsets h var n fixed = grind (arith, at)
 
-record-offsets : (h : Header) (var : Var) (n : ℕ) → is_record_var h.dims var ≡ true
+pub record-offsets : (h : Header) (var : Var) (n : ℕ) → is_record_var h.dims var ≡ true
     → value_offsets h var n ≡ map (at var.begin_at (record_size h ∷ slab_strides (size_of var.ty) (slab_lens h.dims var.dimids))) (vectors_below (n ∷ slab_lens h.dims var.dimids))
 unfolding value_offsets
 record-offsets h var n growing = grind (arith, at)

@@ -5,4 +5,5 @@ pub mod OwedValues
 pub mod ListedRows
 pub mod Weight
 pub mod PartRuns
+pub mod Extents
 pub mod LaterPieces

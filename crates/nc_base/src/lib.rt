@@ -53,8 +53,9 @@ pub use number::number_of;
 pub use path::stem;
 pub use sequence::Sequence;
 pub use sizes::{
-    RECORD_LIMIT, RecordLayout, dim_len, is_record_dim, is_record_shape, is_record_var,
-    padding_len, record_layout, slab_bytes, slab_len, sound_record_size, value_count,
+    RECORD_LIMIT, RecordLayout, dim_len, extent_end, is_record_dim, is_record_shape, is_record_var,
+    padding_len, rec_size, record_layout, records, slab_bytes, slab_len, sound_record_size,
+    value_count,
 };
 pub use version::Version;
 pub use weights::weight;

@@ -1,11 +1,12 @@
-//! The sizes of slabs and of records, and the number of records.
+//! The sizes of slabs and of records, the number of records, and where a variable ends.
 
-ghost use Rattle.std.specs.Prelude.{◌≡◌, ◌+◌, ◌*◌, ◌/◌, ◌<◌, ◌≤◌, ◌^◌, ◌&&◌, if◌then◌else◌, length, map, min, SomeIff};
+ghost use Rattle.std.specs.Prelude.{◌≡◌, ◌+◌, ◌*◌, ◌/◌, ◌<◌, ◌≤◌, ◌^◌, ◌&&◌, IfSome, if◌then◌else◌, length, map, min, slice_get, SomeIff};
 ghost use Rattle.nc_base.specs.Types.{size_of};
 ghost use Rattle.nc_base.specs.Bytes.{padding_len};
-ghost use Rattle.nc_base.specs.Sizes.{slab_len, dim_len, is_record_dim, is_record_shape, is_record_var, is_narrow, product, slab_limit, record_size, record_limit, record_vars, record_count};
-ghost use Rattle.nc_base.specs.code.SizeParts.{slab_at, checked_record_size, least_record_begin, min_begin, CountsValues, IsCappedSlab};
+ghost use Rattle.nc_base.specs.Sizes.{slab_len, dim_len, is_record_dim, is_record_shape, is_record_var, is_narrow, product, slab_size, padded_size, slab_limit, record_size, record_limit, record_vars, record_count};
+ghost use Rattle.nc_base.specs.code.SizeParts.{slab_at, checked_record_size, extent_sum, least_record_begin, min_begin, CountsValues, IsCappedSlab};
 ghost use Rattle.nc_base.specs.GeneratedFile.{known_records};
+ghost use Rattle.nc_base.specs.code.Extents.{extent_end};
 ghost use Rattle.nc_base.specs.Headers.{IsSound};
 ghost use Rattle.nc_base.specs.Sizes.{value_count};
 
@@ -29,9 +30,11 @@ pub fn slab_bytes(header: &Header, v: usize) -> Option<u64>
     slab_len(header.dims.as_slice(), var.dimids.as_slice(), var.ty)
 }
 
-/// Returns the record size ([`sound_record_size`] says what that is), or `None` if a record variable's slab passes 2^48 bytes, or if the
-/// record size passes 2^62 bytes.
-pub(crate) fn rec_size(header: &Header) -> Option<u64>
+/// Returns the record size: the number of bytes from a record variable's values in one record to those in the next. It is the sum of the
+/// slabs of all record variables, each padded to a multiple of four bytes; but a sole record variable of one-byte or two-byte values isn't
+/// padded (`recsize` of the NetCDF Classic Format Specification, with its special case). It is 0 if there are no record variables. Returns
+/// `None` if a record variable's slab passes 2^48 bytes, or if the record size passes 2^62 bytes.
+pub fn rec_size(header: &Header) -> Option<u64>
     ensures { result ≡ checked_record_size header.now }
 {
     let dims = header.dims.as_slice();
@@ -55,7 +58,7 @@ pub(crate) fn rec_size(header: &Header) -> Option<u64>
 }
 
 impl NumRecs {
-    /// Returns the number of records if the header has it, otherwise 0. To count the records of a file instead, call [`record_layout`].
+    /// Returns the number of records if the header has it, otherwise 0. To count the records of a file instead, call [`records`].
     pub fn known(self) -> u64
         ensures { result ≡ known_records self }
     {
@@ -63,6 +66,26 @@ impl NumRecs {
             NumRecs::Known(n) => n,
             NumRecs::Streaming => 0,
         }
+    }
+}
+
+/// Returns the number of records of a file of `len` bytes with this header. If the header has the number, it is that number. If it is
+/// unknown (`STREAMING`), it is the number of whole records between the least begin of the record variables and the file's end, or 0 if
+/// there are no record variables or the file ends before that begin (`numrecs` of the NetCDF Classic Format Specification).
+///
+/// If the header isn't sound ([`Header::sound`]), no clause says which number is returned.
+pub fn records(header: &Header, len: u64) -> u64
+    ensures { IsSound header.now → result ≡ record_count header.now len }
+{
+    match header.numrecs {
+        NumRecs::Known(n) => n,
+        NumRecs::Streaming => match least_record_begin(
+            header.dims.as_slice(),
+            header.vars.as_slice(),
+        ) {
+            Some(begin) => whole_records(len.saturating_sub(begin), rec_size(header)),
+            None => 0,
+        },
     }
 }
 
@@ -75,11 +98,7 @@ pub struct RecordLayout {
     pub record_size: u64,
 }
 
-/// Returns the number of records of a file of `len` bytes with this header, and the record size ([`sound_record_size`]). If the header has
-/// the number, it is that number. If it is unknown (`STREAMING`), it is the number of whole records between the least begin of the record
-/// variables and the file's end, or 0 if there are no record variables or the file ends before that begin (`numrecs` of the NetCDF Classic
-/// Format Specification).
-///
+/// Returns the number of records of a file of `len` bytes with this header ([`records`]), and the record size ([`sound_record_size`]).
 /// Needs a sound header ([`Header::sound`]). It takes time in proportion to the number of variables and their dimensions, so a caller that
 /// goes over the variables asks for it once.
 pub fn record_layout(header: &Header, len: u64) -> RecordLayout
@@ -87,35 +106,55 @@ pub fn record_layout(header: &Header, len: u64) -> RecordLayout
     ensures records { result.records ≡ record_count header.now len }
     ensures record_size { result.record_size ≡ record_size header.now }
 {
-    let record_size = sound_record_size(header);
     RecordLayout {
-        records: record_count(header, len, record_size),
-        record_size,
+        records: records(header, len),
+        record_size: sound_record_size(header),
     }
 }
 
-/// Returns the number of records of [`record_layout`]. Needs the header's record size in `size`.
-fn record_count(header: &Header, len: u64, size: u64) -> u64
-    requires { size ≡ record_size header.now }
-    ensures { result ≡ record_count header.now len }
+/// Returns how many whole records of `size` bytes fit into `bytes` bytes, or 0 if `size` is 0. With `None`, which [`rec_size`] returns if
+/// a limit is passed, it returns 0, but no clause says so.
+fn whole_records(bytes: u64, size: Option<u64>) -> u64
+    ensures { IfSome size (λ size. result ≡ bytes / size) }
 {
-    match header.numrecs {
-        NumRecs::Known(n) => n,
-        NumRecs::Streaming => match least_record_begin(
-            header.dims.as_slice(),
-            header.vars.as_slice(),
-        ) {
-            Some(begin) => whole_records(len.saturating_sub(begin), size),
-            None => 0,
-        },
+    match size {
+        Some(size) if size > 0 => bytes / size,
+        _ => 0,
     }
 }
 
-/// Returns how many whole records of `size` bytes fit into `bytes` bytes, or 0 if `size` is 0.
-fn whole_records(bytes: u64, size: u64) -> u64
-    ensures { result ≡ bytes / size }
+/// Returns the first offset after the last value that the variable at index `v` has over `records` records, in bytes from the file's start.
+/// Returns the variable's begin if it has no value, such as a record variable over 0 records. Needs a sound header ([`Header::sound`]), and
+/// a variable at this index.
+///
+/// For callers of the library: the programs themselves never ask for it.
+pub fn extent_end(header: &Header, v: usize, records: u64) -> u128
+    requires sound { IsSound header.now }
+    requires there { v < length header.now.vars }
+    ensures { IfSome (slice_get header.now.vars v) (λ var. result ≡ extent_end header.now var records) }
 {
-    bytes.checked_div(size).unwrap_or(0)
+    extent_sum(header, v, records)
+}
+
+/// Returns the offset that [`extent_end`] returns for `records` records: the begin for a record variable over 0 records, otherwise the sum
+/// of the begin, the bytes of the slab, and for a record variable one record size for each record after the first. It is there for its
+/// contract, which states this sum: that of [`extent_end`] states where the last value ends. Needs a sound header ([`Header::sound`]), and
+/// a variable at the index `v`.
+fn extent_sum(header: &Header, v: usize, records: u64) -> u128
+    requires sound { IsSound header.now }
+    requires there { v < length header.now.vars }
+    ensures { IfSome (slice_get header.now.vars v) (λ var. result ≡ extent_sum header.now records var) }
+{
+    let var = &header.vars.as_slice()[v];
+    let begin = var.begin_at as u128;
+    let slab = sound_slab_size(header, v) as u128;
+    if !is_record_var(header.dims.as_slice(), var) {
+        begin + slab
+    } else if records == 0 {
+        begin
+    } else {
+        begin + (records - 1) as u128 * sound_record_size(header) as u128 + slab
+    }
 }
 
 /// Returns how many values the variable at index `v` has over `records` records. A record variable has one slab for each record, and any
@@ -134,10 +173,7 @@ pub fn value_count(header: &Header, v: usize, records: u64) -> u128
     }
 }
 
-/// Returns the record size: the number of bytes from a record variable's values in one record to those in the next. It is the sum of the
-/// slabs of all record variables, each padded to a multiple of four bytes; but a sole record variable of one-byte or two-byte values isn't
-/// padded (`recsize` of the NetCDF Classic Format Specification, with its special case). It is 0 if there are no record variables, and at
-/// most 2^62 bytes. Needs a sound header ([`Header::sound`]).
+/// Returns the record size of [`rec_size`], at most 2^62 bytes, but not as an `Option`. Needs a sound header ([`Header::sound`]).
 pub fn sound_record_size(header: &Header) -> u64
     requires { IsSound header.now }
     ensures size { result ≡ record_size header.now }

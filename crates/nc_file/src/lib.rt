@@ -2,7 +2,8 @@
 //!
 //! [`read_header`] reads the header of a file from any source, through a caller's buffer, or errs with a [`HeadFault`]. A header
 //! is written in two steps: [`with_begins`] gives each variable its begin, or errs with [`OffsetTooLarge`], and [`write_header`]
-//! writes the header to any sink. [`header_len`] returns the number of bytes that it writes.
+//! writes the header to any sink. [`header_len`] returns the number of bytes that it writes. Devices of the crate `devices` are
+//! re-exported, for the crates above.
 //!
 //! ```
 //! let mut buf = [0; 4096];
@@ -22,6 +23,10 @@ mod tag;
 mod window;
 mod write;
 
+pub use devices::{
+    DripSource, FailWhen, FileSource, IoSink, MemFile, MemFiles, MemSink, MemSource, OpenFailed,
+    Opener, Sink, SinkFailed, SliceSink, Source, SourceFailed, SystemFiles, WriteFailed, put,
+};
 pub use head_fault::HeadFault;
 pub use read::{is_dimid, read_header, total_with, type_in};
 pub use sized_var::{SizedType, SizedVar};

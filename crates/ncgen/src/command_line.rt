@@ -65,10 +65,10 @@ pub fn options_of(alloc: Global, matches: &ArgMatches) -> Result<GenOptions, Opt
     if is_unnamed(is_binary, output, file) {
         return Err(OptFault::Usage);
     }
-    let version = version_in(value_of(matches, "kind")).ok_or(OptFault::Usage)?;
+    let kind = version_in(value_of(matches, "kind")).ok_or(OptFault::Usage)?;
     Ok(GenOptions {
-        version,
-        output: output_in(alloc, is_binary, output, file)?,
+        kind,
+        out: output_in(alloc, is_binary, output, file)?,
         file: copy_path(alloc, file)?,
     })
 }

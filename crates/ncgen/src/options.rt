@@ -6,9 +6,9 @@ use nc_base::Version;
 #[derive(Debug, Drop)]
 pub struct GenOptions {
     /// The version of the format: `-k`.
-    pub version: Version,
+    pub kind: Version,
     /// The path of the file to write, or `None` if none is written: `-o`, or the name that `-b` makes of the text's path.
-    pub output: Option<String>,
+    pub out: Option<String>,
     /// The path of the text, or `None` if the text is read from standard input.
     pub file: Option<String>,
 }

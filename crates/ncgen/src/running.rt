@@ -79,7 +79,7 @@ fn generate_for_words<T: TextOpener, C: Creator, R: Read>(
 {
     let options = options_of_words(alloc, words)?;
     match read_and_prepare(opener, alloc, &options, input) {
-        Ok(prepared) => write_if_asked(creator, options.output, &prepared),
+        Ok(prepared) => write_if_asked(creator, options.out, &prepared),
         Err(fault) => Err(Failure::Input(options.file, fault)),
     }
 }
@@ -98,28 +98,28 @@ fn read_and_prepare<T: TextOpener, R: Read>(
           input = use_of (view_of R.remaining) input.old input.new;
         })
         (option_map string_bytes options.now.file)
-        options.now.version
+        options.now.kind
         result }
 {
     let text = read_input(opener, alloc, &options.file, input)?;
-    Ok(prepare(alloc, text.as_slice(), options.version)?)
+    Ok(prepare(alloc, text.as_slice(), options.kind)?)
 }
 
-/// Writes the file `prepared` to the path `output`, or nothing if there is no path. Needs a `prepared` such as [`prepare`] returns. Errs with
+/// Writes the file `prepared` to the path `out`, or nothing if there is no path. Needs a `prepared` such as [`prepare`] returns. Errs with
 /// `Output` if the output can't be created, written or closed.
 fn write_if_asked<C: Creator>(
     creator: &mut C,
-    output: Option<String>,
+    out: Option<String>,
     prepared: &Prepared,
 ) -> Result<(), Failure>
     requires { IsReady prepared.now }
     ensures { WritesAsked
         (record { is_transparent = C.is_transparent; before = C.view creator.old; after = C.view creator.new })
-        (option_map string_bytes output)
+        (option_map string_bytes out)
         (file_of_prepared prepared.now)
         result }
 {
-    match output {
+    match out {
         Some(path) => match write_output(creator, path.as_str(), prepared) {
             Ok(()) => Ok(()),
             Err(fault) => Err(Failure::Output(path, fault)),

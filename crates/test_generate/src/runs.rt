@@ -123,14 +123,10 @@ fn kinds_with_a_space(rt: HostRuntime) {
 type Asked = (Version, Option<&'static str>, Option<&'static str>);
 
 /// Returns true if the words ask for this.
-fn ask_for(alloc: Global, words: &[&str], (version, output, file): Asked) -> Result<bool, Fail> {
+fn ask_for(alloc: Global, words: &[&str], (kind, out, file): Asked) -> Result<bool, Fail> {
     let matches = command(alloc)?.try_get_matches_from(words)?;
     let options = options_of(alloc, &matches)?;
-    Ok(
-        options.version == version
-            && is_path(&options.output, output)
-            && is_path(&options.file, file),
-    )
+    Ok(options.kind == kind && is_path(&options.out, out) && is_path(&options.file, file))
 }
 
 /// Returns true if this path is given, or none.

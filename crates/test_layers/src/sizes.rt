@@ -1,7 +1,8 @@
 //! Sizes of small headers, worked out by hand.
 
 use crate::header_rows::{EMPTY, HeaderRow, NamedLength, NamedShape, dims_of, header_of};
-use nc_base::{NcType, NumRecs, record_layout, slab_len};
+use nc_base::{Header, NcType, NumRecs, extent_end, rec_size, records, slab_len};
+use std::process::Abort;
 use std::test::Fail;
 
 #[test]
@@ -53,32 +54,38 @@ const INT: NamedShape<'static> = ("i", &[0], NcType::Int, 0);
 
 const SQUARE: NamedShape<'static> = ("q", &[0, 1, 1], NcType::Int, 0);
 
-/// Variables, the size of a record, the length of a file and its number of records.
-static RECORDS: &[(&[NamedShape<'static>], u64, u64, u64)] = &[
-    (&[FIXED], 0, 139, 0),
+/// Variables, the size of a record, the length of a file and its number of records, and where the values of each variable end.
+static RECORDS: &[(&[NamedShape<'static>], u64, u64, u64, &[u128])] = &[
+    (&[FIXED], 0, 139, 0, &[106]),
     // a sole narrow record variable is not padded
-    (&[FIXED, BYTE], 1, 119, 3),
-    (&[SHORTS, FIXED], 6, 20, 3),
-    (&[FIXED, SHORT, BYTE], 8, 139, 2),
-    (&[FIXED, SHORT, BYTE], 8, 100, 0),
-    (&[SHORTS, SHORTS], 16, 47, 2),
-    (&[INT, SQUARE], 20, 39, 1),
+    (&[FIXED, BYTE], 1, 119, 3, &[106, 119]),
+    (&[SHORTS, FIXED], 6, 20, 3, &[18, 106]),
+    (&[FIXED, SHORT, BYTE], 8, 139, 2, &[106, 130, 125]),
+    (&[FIXED, SHORT, BYTE], 8, 100, 0, &[106, 120, 116]),
+    (&[SHORTS, SHORTS], 16, 47, 2, &[22, 22]),
+    (&[INT, SQUARE], 20, 39, 1, &[4, 16]),
 ];
+
+/// Fails unless the values of each variable end there over `count` records.
+fn expect_ends(rt: &impl Abort, header: &Header, count: u64, ends: &[u128]) {
+    assert!(rt; header.sound());
+    for (v, end) in ends.iter().enumerate() {
+        assert!(rt; v < header.vars.len());
+        assert!(rt; extent_end(header, v, count) == *end, "variable {v}");
+    }
+}
 
 #[test]
 fn records_are_counted_from_the_least_begin(rt: HostRuntime) -> Result<(), Fail> {
-    for (vars, size, len, count) in RECORDS {
+    for (vars, size, len, count, ends) in RECORDS {
         let row = HeaderRow {
             vars: *vars,
             ..STREAMING
         };
         let header = header_of(rt.alloc(), &row)?;
-        assert!(rt; header.sound(), "{vars:?}");
-        let layout = record_layout(&header, *len);
-        assert!(rt;
-            layout.record_size == *size && layout.records == *count,
-            "{vars:?}"
-        );
+        assert!(rt; rec_size(&header) == Some(*size), "{vars:?}");
+        assert!(rt; records(&header, *len) == *count, "{vars:?}");
+        expect_ends(&rt, &header, *count, *ends);
     }
     Ok(())
 }

@@ -1,7 +1,7 @@
 //! Walks over the values of files that are whole, changed or cut, through buffers of every length and in reads of every length.
 
 use devices::{DripSource, FailWhen, MemSource, Source};
-use nc_base::{Header, record_layout};
+use nc_base::{Header, records};
 use nc_file::read_header;
 use nc_walk::{Walk, WalkFault, laws};
 use std::alloc::Global;
@@ -57,7 +57,7 @@ fn has_ended<S: Source>(walk: &mut Walk<'_>, source: &mut S, end: Result<(), Wal
 /// How many records the header has in a file of this length.
 fn records_in(rt: &impl Abort, header: &Header, len: usize) -> u64 {
     assert!(rt; header.sound());
-    record_layout(header, len as u64).records
+    records(header, len as u64)
 }
 
 /// Fails unless walks over the first `len` bytes of a file are as wanted: through each buffer from 16 to 40 bytes, in reads of at most 1 to

@@ -1,8 +1,8 @@
 -- For contracts. What the parts of the functions on sizes give: words of their contracts, and none of the format's.
-use Rattle.std.specs.Prelude.{◌≡◌, ◌≤◌, ℕ, min, Bool, nat_lt, nat_le, ◌&&◌, not, if◌then◌else◌, List, [], ◌∷◌, length, map, slice_get, slice_index, IfSome, Option, Some, None, SomeIff}
+use Rattle.std.specs.Prelude.{◌≡◌, ◌≤◌, ℕ, ◌+◌, ◌-◌, ◌*◌, min, Bool, nat_lt, nat_le, ◌==◌, ◌&&◌, not, if◌then◌else◌, List, [], ◌∷◌, length, map, slice_get, slice_index, IfSome, Option, Some, None, SomeIff}
 use Rattle.std.specs.List.{list_all}
 use Rattle.nc_base.specs.declared.{header.Dim.Dim, header.Var.Var, header.Header.Header, nc_type.NcType.NcType}
-use Rattle.nc_base.specs.Sizes.{value_count, is_record_dim, slab_size, record_vars, record_size, slab_limit, record_limit, least_begin, slab_len}
+use Rattle.nc_base.specs.Sizes.{value_count, is_record_dim, is_record_var, slab_size, record_vars, record_size, slab_limit, record_limit, least_begin, slab_len}
 
 -- the id is that of a dimension other than the record dimension
 abbrev pub is_fixed_dim : List Dim → ℕ → Bool
@@ -31,6 +31,13 @@ least_record_begin (var ∷ vars) = Some (least_begin var vars)
 abbrev pub min_begin : Option ℕ → ℕ → ℕ
 min_begin None begin = begin
 min_begin (Some offset) begin = min offset begin
+
+-- the first offset after the last value that a variable has over n records: its begin, where it has none
+abbrev pub extent_sum : Header → ℕ → Var → ℕ
+extent_sum h records var =
+    if is_record_var h.dims var
+    then (if records == 0 then var.begin_at else var.begin_at + (records - 1) * record_size h + slab_size h.dims var)
+    else var.begin_at + slab_size h.dims var
 
 -- this is the number of values that the variable at this index has over n records, if there is one
 abbrev pub CountsValues : Header → ℕ → ℕ → ℕ → Type 0

@@ -13,4 +13,4 @@ is_unnamed is_binary output file = is_binary && is_none output && is_none file
 
 -- what the options ask for
 abbrev pub asked_for : GenOptions → Asked
-asked_for o = record { version = o.version; output = option_map string_bytes o.output; file = option_map string_bytes o.file }
+asked_for o = record { version = o.kind; output = option_map string_bytes o.out; file = option_map string_bytes o.file }

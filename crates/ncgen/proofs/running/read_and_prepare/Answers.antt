@@ -8,7 +8,7 @@ returns-in_err-prepare g c =
     rw (p.1, p.2) (record {
       text = c.in_ok-text.text;
       read = c.in_ok-text.ensures;
-      refused = subst (λ (text : List ℕ). Refuses (generated text c.args.options.now.version) c.in_err-prepare.field-0.0) c.as_slice.ensures.value c.in_err-prepare.ensures;
+      refused = subst (λ (text : List ℕ). Refuses (generated text c.args.options.now.kind) c.in_err-prepare.field-0.0) c.as_slice.ensures.value c.in_err-prepare.ensures;
     })
 
 -- the text was read, and gives the file that is ready
@@ -18,6 +18,6 @@ returns g c = (
   record {
     text = c.in_ok-text.text;
     read = c.in_ok-text.ensures;
-    stated = ap (λ (text : List ℕ). generated text c.args.options.now.version) (sym c.as_slice.ensures.value) ∙ c.in_ok-prepare.ensures.1;
+    stated = ap (λ (text : List ℕ). generated text c.args.options.now.kind) (sym c.as_slice.ensures.value) ∙ c.in_ok-prepare.ensures.1;
   },
 )
