@@ -354,19 +354,20 @@ options narrow_lines "$head\\n x = 1, 2, 3 ;\\n\\n s = 1000, 20000, \\n    66 ;\
 options coordinates_among_chosen "$head\\n x = 1, 2, 3 ;\\n}\\n" -c -v s,x grid.nc
 options no_coordinates_among_chosen "$head}\\n" -v s -c grid.nc
 
-# Devices that take nothing.
+# Devices that take nothing: only the flush at the end fails, without a line, or a write before it. A file that may not be read.
 if has_full_device; then
-    stderr 'ncdump: write failed\n'
     run to_full_device "$samples/records.nc"
     verdict full_standard_output_at_the_end 1
     stderr 'ncdump: large.nc: write failed\n'
     run to_full_device large.nc
     verdict full_standard_output_on_the_way 1
 fi
-stderr 'ncdump: write failed\n'
 run without_stdout "$samples/records.nc"
 verdict closed_standard_output 1
 run without_stderr missing.nc
 verdict closed_standard_error 1
+cp "$samples/records.nc" locked.nc
+stderr 'ncdump: locked.nc: cannot open\n'
+may_not_read 1 locked.nc "$ncdump"
 
 summary

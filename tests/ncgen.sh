@@ -218,5 +218,8 @@ verdict two_strings_of_200_megabytes 0
 } >rows.cdl
 run in_memory_of_many_rows "$ncgen" -k nc5 -o /dev/null rows.cdl
 verdict short_strings_of_ten_gigabytes 0
+cdl 'netcdf t {\n}\n' locked.cdl
+stderr 'ncgen: locked.cdl: cannot open\n'
+may_not_read 1 locked.cdl "$ncgen" -o locked.nc
 
 summary

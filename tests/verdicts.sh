@@ -53,6 +53,23 @@ verdict() {
     nothing
 }
 
+# may_not_read STATUS FILE PROGRAM [WORD ..]: the test of the program on a file that may not be read. Root may read any file, so another user
+# tries it, if that user can run a program here.
+may_not_read() {
+    local status=$1 file=$2 other=()
+    chmod 000 "$file"
+    chmod 711 "$work" "$work/files"
+    cp "$3" program
+    [ "$(id -u)" != 0 ] || other=(setpriv --reuid 65534 --regid 65534 --clear-groups)
+    if "${other[@]}" test -x "$PWD/program" 2>"$work/said"; then
+        run "${other[@]}" ./program "${@:4}" "$file"
+        verdict file_that_may_not_be_read "$status"
+    else
+        echo "skipped file_that_may_not_be_read: no other user can run a program here: $(cat "$work/said")"
+        nothing
+    fi
+}
+
 # has_full_device: whether there is /dev/full, a device that is always full. Where not, this test fails and says what is wrong: as root,
 # Unidata's `ncgen -o /dev/full` removes the device, and the next program that writes there makes a file.
 has_full_device() {

@@ -42,7 +42,7 @@ pub fn strings_stand_for_bytes()
 /// States laws of pieces, and does nothing. A piece is a part that a text is cut into, such as a statement. If a text can declare a dataset
 /// (`IsSayable`), then each of these parts of its dump is one piece, whatever follows: the line of a dimension, the declaration of a
 /// variable, the line of an attribute, and the text of a variable's values. This piece is the statement that declares the dimension or the
-/// variable, gives the attribute without NULs at the end of its characters, or lists the values of [`array_reads_back`].
+/// variable, gives the attribute without NULs at the end of its characters, or lists the values of [`row_reads_back`].
 ///
 /// `marks`: the first line, the section marks and the last line of a dump are pieces, too, but not the comment before the global
 /// attributes.
@@ -64,7 +64,7 @@ pub fn piece_reads_back()
 ///
 /// `empty`: the array of a variable without values, which has no such text, is empty.
 #[tactic(auto, using(crate::proofs::RowsRead::rows_read_back, crate::proofs::RowsRead::empty_rows_read_back))]
-pub fn array_reads_back()
+pub fn row_reads_back()
     ensures rows { RowsReadBack }
     ensures empty { EmptyRowsReadBack }
 {}

@@ -18,7 +18,7 @@ use crate::variables::Variables;
 use cdl_statements::{CdlKind, Cutter, Lexeme};
 use cdl_tokens::TokenKind;
 use cdl_values::{ReadError, name_of_word, read_name};
-use nc_base::{NcType, Version, is_record_dim, is_valid_name};
+use nc_base::{NcType, Version, is_record_dim, check_name};
 use std::alloc::{AllocError, Global};
 
 /// A variable as far as its declaration is read.
@@ -243,7 +243,7 @@ fn dimid_of_word(
 fn next_dimid(dims: &Dimensions, before: &[u64], name: &[u8]) -> Result<u64, CdlKind>
     ensures { result ≡ next_dimid dims.now before.now name.now }
 {
-    if !is_valid_name(name) {
+    if !check_name(name) {
         return Err(CdlKind::BadName);
     }
     match dims.position(name) {

@@ -37,6 +37,7 @@ mod text_end;
 mod variable_lookup;
 mod variables;
 
-pub use cdl_statements::{CdlFault, CdlKind};
+pub use cdl_statements::{CdlFault, CdlKind, Cutter};
+pub use cdl_tokens::{Token, TokenKind};
 pub use declared_values::Declared;
 pub use text::{declared, parse};

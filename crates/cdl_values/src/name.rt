@@ -10,7 +10,7 @@ ghost use Rattle.cdl_values.specs.code.Answers.{FailsRead};
 use crate::read_error::ReadError;
 use cdl_statements::CdlKind;
 use cdl_tokens::{byte_at, is_escape};
-use nc_base::is_valid_name;
+use nc_base::check_name;
 use std::alloc::{AllocError, Global};
 
 /// Returns the name that a word stands for, if the format allows it: the bytes of the word without the backslashes of its escapes, `a b`
@@ -25,7 +25,7 @@ pub fn read_name(alloc: Global, word: &[u8]) -> Result<Vec<u8>, ReadError>
     ensures fault { IfErr result (λ e. FailsRead e (unless (is_name (word_value word.now)) BadName)) }
 {
     let name = name_of_word(alloc, word)?;
-    if !is_valid_name(name.as_slice()) {
+    if !check_name(name.as_slice()) {
         return Err(ReadError::Fault(CdlKind::BadName));
     }
     Ok(name)

@@ -1,13 +1,14 @@
 -- What an opener counts of what it opened once and has back.
-use Rattle.std.proofs.Common.{◌≡◌, ℕ, ◌+◌, ◌-◌, ◌^◌, ap, ◌∙◌, min}
+use Rattle.std.proofs.Common.{◌≡◌, ℕ, ◌+◌, ◌-◌, ◌^◌, ap, ◌∙◌, min, Result}
 use Rattle.devices.specs.Failures.{HasFailed}
 use Rattle.devices.specs.Openers.{OpenerView}
+use Rattle.devices.specs.declared.fault.OpenFailed.{OpenFailed}
 use Rattle.devices.specs.code.PathOpens.{HasBack, OpensOnce}
 
-pub one_failure : (old mid new : OpenerView) (failures : ℕ) → OpensOnce old mid → failures ≡ min (0 + 1) (2 ^ 128 - 1) → HasBack mid new failures → HasFailed old.failures new.failures
+pub one_failure : {D : Type 0} {opened : Result D OpenFailed} (old mid new : OpenerView) (failures : ℕ) → OpensOnce old mid opened → failures ≡ min (0 + 1) (2 ^ 128 - 1) → HasBack mid new failures → HasFailed old.failures new.failures
 unfolding HasFailed
-one_failure old mid new failures opened one back =
-    back.failed ∙ ap (λ (n : ℕ). min (n + failures) (2 ^ 128 - 1)) opened.failures ∙ ap (λ (n : ℕ). min (old.failures + n) (2 ^ 128 - 1)) one
+one_failure old mid new failures once one back =
+    back.failed ∙ ap (λ (n : ℕ). min (n + failures) (2 ^ 128 - 1)) once.failures ∙ ap (λ (n : ℕ). min (old.failures + n) (2 ^ 128 - 1)) one
 
-pub no_failure : (old mid new : OpenerView) (failures : ℕ) → OpensOnce old mid → failures ≡ 0 → HasBack mid new failures → new.failures ≡ old.failures
-no_failure old mid new failures opened none back = back.unfailed none ∙ opened.failures
+pub no_failure : {D : Type 0} {opened : Result D OpenFailed} (old mid new : OpenerView) (failures : ℕ) → OpensOnce old mid opened → failures ≡ 0 → HasBack mid new failures → new.failures ≡ old.failures
+no_failure old mid new failures once none back = back.unfailed none ∙ once.failures

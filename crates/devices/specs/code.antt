@@ -4,7 +4,8 @@ pub mod Memory
 pub mod IoSinks
 pub mod MemFiles
 pub mod Ahead
-pub mod System
+pub mod OpenCounts
+pub mod SystemErrors
 pub mod Made
 pub mod SourceReads
 pub mod SinkWrites

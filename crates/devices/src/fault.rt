@@ -1,5 +1,9 @@
 //! What can go wrong with a device. The words for each error are those that the fault lines of the programs have.
 
+ghost use Rattle.std.specs.Prelude.{◌≡◌, codes, Some};
+ghost use Rattle.std.specs.IoError.{error_kind};
+ghost use Rattle.devices.specs.code.SystemErrors.{reason_of};
+
 use std::error::Error;
 use std::io::ErrorKind;
 use std::{fmt, io};
@@ -30,6 +34,8 @@ pub enum OpenFailed {
 }
 
 impl From<io::Error> for OpenFailed {
+    ghost from_gives = { λ error why. why ≡ reason_of (error_kind error) };
+
     /// Turns an error of the system into the reason that it tells, for the `?` after a call that opens a file.
     fn from(error: io::Error) -> OpenFailed {
         match error.kind() {
@@ -57,6 +63,8 @@ impl From<SinkFailed> for WriteFailed {
 }
 
 impl fmt::Display for SourceFailed {
+    ghost output = { λ _. Some (codes "read failed") };
+
     /// Writes `read failed`.
     fn fmt<W: fmt::Write>(&self, f: &mut fmt::Formatter<W>) -> fmt::Result {
         f.write_str("read failed")
@@ -66,6 +74,8 @@ impl fmt::Display for SourceFailed {
 impl Error for SourceFailed {}
 
 impl fmt::Display for SinkFailed {
+    ghost output = { λ _. Some (codes "write failed") };
+
     /// Writes `write failed`.
     fn fmt<W: fmt::Write>(&self, f: &mut fmt::Formatter<W>) -> fmt::Result {
         f.write_str("write failed")
@@ -75,6 +85,8 @@ impl fmt::Display for SinkFailed {
 impl Error for SinkFailed {}
 
 impl fmt::Display for WriteFailed {
+    ghost output = { λ _. Some (codes "write failed") };
+
     /// Writes `write failed`.
     fn fmt<W: fmt::Write>(&self, f: &mut fmt::Formatter<W>) -> fmt::Result {
         f.write_str("write failed")
@@ -84,6 +96,8 @@ impl fmt::Display for WriteFailed {
 impl Error for WriteFailed {}
 
 impl fmt::Display for OpenFailed {
+    ghost output = { λ _. Some (codes "cannot open") };
+
     /// Writes `cannot open`, without the reason.
     fn fmt<W: fmt::Write>(&self, f: &mut fmt::Formatter<W>) -> fmt::Result {
         f.write_str("cannot open")
@@ -93,6 +107,8 @@ impl fmt::Display for OpenFailed {
 impl Error for OpenFailed {}
 
 impl fmt::Display for CreateFailed {
+    ghost output = { λ _. Some (codes "cannot open") };
+
     /// Writes `cannot open`.
     fn fmt<W: fmt::Write>(&self, f: &mut fmt::Formatter<W>) -> fmt::Result {
         f.write_str("cannot open")
@@ -102,6 +118,8 @@ impl fmt::Display for CreateFailed {
 impl Error for CreateFailed {}
 
 impl fmt::Display for CloseFailed {
+    ghost output = { λ _. Some (codes "write failed") };
+
     /// Writes `write failed`.
     fn fmt<W: fmt::Write>(&self, f: &mut fmt::Formatter<W>) -> fmt::Result {
         f.write_str("write failed")

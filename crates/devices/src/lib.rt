@@ -4,9 +4,9 @@
 //! nothing of their cause. [`MemSource`] and [`MemSink`] are in memory, [`FileSource`] is a file of the system, and [`IoSink`]
 //! writes to any writer of the standard library. [`put`] writes all of the bytes that it is given, and [`put_decimal`] a number.
 //!
-//! An [`Opener`] opens paths as sources, and [`TextOpener`] opens them as readers. A [`CountedRead`] counts what a reader does.
+//! An [`Opener`] opens paths as sources, and [`TextOpener`] opens them as readers; [`OpenCounts`] is what both count.
 //! [`SystemFiles`] opens the files of the system in both ways, and [`DirectFiles`] as sources that don't read ahead. A
-//! [`Creator`] creates outputs at paths: [`SystemOutputs`] in the files of the system.
+//! [`CountedRead`] counts what a reader does. A [`Creator`] creates outputs at paths: [`SystemOutputs`] in the files of the system.
 //!
 //! For tests, [`DripSource`] gives few bytes a read and fails on request, and [`SliceSink`] fills a slice, a few bytes a call.
 //! [`MemFiles`] opens files of a list in memory, and [`MadeFiles`] creates outputs in memory.
@@ -27,6 +27,7 @@ mod decimal;
 mod fault;
 mod file;
 mod memory;
+mod open_counts;
 mod opener;
 mod output;
 mod reader;
@@ -42,6 +43,7 @@ pub use decimal::put_decimal;
 pub use fault::{CloseFailed, CreateFailed, OpenFailed, SinkFailed, SourceFailed, WriteFailed};
 pub use file::{FileSource, IoSink, OpenFile};
 pub use memory::{MemSink, MemSource};
+pub use open_counts::OpenCounts;
 pub use opener::Opener;
 pub use output::SystemOutputs;
 pub use reader::CountedRead;

@@ -8,8 +8,8 @@ use crate::{OpenFailed, Source};
 
 /// What opens paths as sources.
 ///
-/// Contracts see how often the opener was asked to open a path, and how many failures the sources had that were given back to it, all
-/// together. If its sources are transparent ([`Source`]), contracts also know which bytes a path names, and which paths can't be opened.
+/// Contracts see how often the opener was asked to open a path, how often it could not, why it could not the last time, and how many
+/// failures the sources had that were given back to it, all together. If its sources are transparent ([`Source`]), contracts also know which bytes a path names, and which paths can't be opened.
 /// This doesn't change while it opens paths and takes sources back.
 pub trait Opener {
     /// The type of source that a path is opened as.
@@ -25,9 +25,10 @@ pub trait Opener {
     ///
     /// # Errors
     ///
-    /// The path can't be opened: `NotFound` if contracts know that it names nothing. The opener counts that it was asked, but no failure.
+    /// The path can't be opened: `NotFound` if contracts know that it names nothing. The opener counts that it was asked, and that it could
+    /// not open the path, with the reason.
     fn open(&mut self, path: &str) -> Result<Self::Source, OpenFailed>
-        ensures once { OpensOnce (view self.old) (view self.new) }
+        ensures once { OpensOnce (view self.old) (view self.new) result }
         ensures failures { IfOk result (λ source. (Self.Source.view source).failures ≡ 0) }
         ensures handed { IfOk result (λ source. (Self.Source.view source).handed ≡ 0) }
         ensures path { OpensSource Self.Source.is_transparent Self.Source.view

@@ -1,10 +1,10 @@
 //! The files of the system.
 
-ghost use Rattle.std.specs.Prelude.{◌≡◌, None, false};
+ghost use Rattle.std.specs.Prelude.{◌≡◌, None, false, IfOk};
 ghost use Rattle.devices.specs.code.PathOpens.{HasBack, unopened};
-ghost use Rattle.devices.specs.code.System.{view_of};
+ghost use Rattle.devices.specs.code.OpenCounts.{view_of};
 
-use crate::{CountedRead, FileSource, OpenFailed, OpenFile, Opener, TextOpener};
+use crate::{CountedRead, FileSource, OpenCounts, OpenFailed, OpenFile, Opener, TextOpener};
 use std::fs::File;
 use std::io::Read;
 use std::rt::Files;
@@ -13,33 +13,31 @@ use std::rt::Files;
 #[derive(Drop)]
 pub struct SystemFiles<'a, R: Files<File = File>> {
     rt: &'a R,
-    /// How often it was asked to open a path, at most `u128::MAX`.
-    opens: u128,
-    /// How many failures the sources and texts had that were given back, at most `u128::MAX`.
-    failures: u128,
+    counts: OpenCounts,
 }
 
 impl<'a, R: Files<File = File>> SystemFiles<'a, R> {
     /// Creates `SystemFiles` for the files of the system that `rt` stands for. None of them has been opened.
     pub fn new(rt: &'a R) -> SystemFiles<'a, R>
-        ensures { view_of result ≡ unopened }
+        ensures { view_of result.counts ≡ unopened }
     {
         SystemFiles {
             rt,
-            opens: 0,
-            failures: 0,
+            counts: OpenCounts::new(),
         }
     }
 
     /// Opens the file at the path to be read as a text, so it may also be a pipe or a device. Errs if it can't be opened, if the system
     /// doesn't tell its kind, or if it is a directory: the system opens a directory, but fails to read from it.
-    fn open_file(&self, path: &str) -> Result<File, OpenFailed> {
+    fn open_text(&self, path: &str) -> Result<CountedRead<File>, OpenFailed>
+        ensures { IfOk result (λ text. text.failures ≡ 0) }
+    {
         let file = File::open(self.rt, path)?;
         let metadata = file.metadata()?;
         if metadata.is_dir() {
             return Err(OpenFailed::NotRegular);
         }
-        Ok(file)
+        Ok(CountedRead::new(file))
     }
 }
 
@@ -48,19 +46,20 @@ impl<R: Files<File = File>> Opener for SystemFiles<'_, R> {
 
     ghost named = { λ _ _. None };
 
-    ghost view = { view_of };
+    ghost view = { λ files. view_of files.counts };
 
     /// Opens the regular file at the path as a source that reads ahead, and keeps the length that the file has now. Errs if the path names
     /// no regular file, the file can't be opened for reading, or the system doesn't tell its kind or its length. The attempt is counted in
     /// any case.
     fn open(&mut self, path: &str) -> Result<FileSource, OpenFailed> {
-        self.opens = self.opens.saturating_add(1);
-        FileSource::open(self.rt, path)
+        let opened = FileSource::open(self.rt, path);
+        self.counts.add_open(&opened);
+        opened
     }
 
     /// Adds the failures of the source to its own, up to `u128::MAX`, and drops the source, which closes the file.
     fn close(&mut self, source: FileSource) {
-        self.failures = self.failures.saturating_add(source.failures());
+        self.counts.add_failures(source.failures());
     }
 }
 
@@ -71,22 +70,22 @@ impl<R: Files<File = File>> TextOpener for SystemFiles<'_, R> {
 
     ghost named = { λ _ _. None };
 
-    ghost view = { view_of };
+    ghost view = { λ files. view_of files.counts };
 
     /// Opens the file at the path, which may also be a pipe or a device, as a text, and returns a reader of it. Errs if it can't be opened,
     /// if the system doesn't tell its kind, or if it is a directory. The attempt is counted in any case.
     fn open_text(&mut self, path: &str) -> Result<CountedRead<File>, OpenFailed> {
-        self.opens = self.opens.saturating_add(1);
-        let file = self.open_file(path)?;
-        Ok(CountedRead::new(file))
+        let opened = SystemFiles::open_text(self, path);
+        self.counts.add_open(&opened);
+        opened
     }
 
     /// Adds the failures of the text to its own, up to `u128::MAX`, and drops the text, which closes the file.
     fn close_text(&mut self, text: CountedRead<File>)
-        ensures { HasBack (view_of self.old) (view_of self.new) text.failures }
+        ensures { HasBack (view_of self.old.counts) (view_of self.new.counts) text.failures }
     {
         // `text` is dropped, which closes the file
-        self.failures = self.failures.saturating_add(text.failures());
+        self.counts.add_failures(text.failures());
     }
 }
 
@@ -94,16 +93,18 @@ impl<R: Files<File = File>> TextOpener for SystemFiles<'_, R> {
 /// of each file, through a buffer of its own. So a file takes no time but that of its calls of the system.
 #[derive(Drop)]
 pub struct DirectFiles<'a, R: Files<File = File>> {
-    files: SystemFiles<'a, R>,
+    rt: &'a R,
+    counts: OpenCounts,
 }
 
 impl<'a, R: Files<File = File>> DirectFiles<'a, R> {
     /// Creates `DirectFiles` for the files of the system that `rt` stands for. None of them has been opened.
     pub fn new(rt: &'a R) -> DirectFiles<'a, R>
-        ensures { view_of result.files ≡ unopened }
+        ensures { view_of result.counts ≡ unopened }
     {
         DirectFiles {
-            files: SystemFiles::new(rt),
+            rt,
+            counts: OpenCounts::new(),
         }
     }
 }
@@ -113,18 +114,19 @@ impl<R: Files<File = File>> Opener for DirectFiles<'_, R> {
 
     ghost named = { λ _ _. None };
 
-    ghost view = { λ direct. view_of direct.files };
+    ghost view = { λ direct. view_of direct.counts };
 
     /// Opens the regular file at the path as a source that doesn't read ahead, and keeps the length that the file has now. Errs if the path
     /// names no regular file, the file can't be opened for reading, or the system doesn't tell its kind or its length. The attempt is
     /// counted in any case.
     fn open(&mut self, path: &str) -> Result<OpenFile, OpenFailed> {
-        self.files.opens = self.files.opens.saturating_add(1);
-        OpenFile::open(self.files.rt, path)
+        let opened = OpenFile::open(self.rt, path);
+        self.counts.add_open(&opened);
+        opened
     }
 
     /// Adds the failures of the source to its own, up to `u128::MAX`, and drops the source, which closes the file.
     fn close(&mut self, source: OpenFile) {
-        self.files.failures = self.files.failures.saturating_add(source.failures);
+        self.counts.add_failures(source.failures);
     }
 }

@@ -10,8 +10,8 @@ use std::io::Read;
 
 /// What opens paths as texts, which are read from their beginning to their end.
 ///
-/// Contracts see how often the opener was asked to open a path, and how many failures the texts had that were given back to it, all
-/// together. If the opener is transparent, contracts also know which bytes a path names, and which paths can't be opened.
+/// Contracts see how often the opener was asked to open a path, how often it could not, why it could not the last time, and how many
+/// failures the texts had that were given back to it, all together. If the opener is transparent, contracts also know which bytes a path names, and which paths can't be opened.
 pub trait TextOpener {
     /// The type of reader that a path is opened as.
     type Text: Read + Drop;
@@ -29,9 +29,10 @@ pub trait TextOpener {
     ///
     /// # Errors
     ///
-    /// The path can't be opened: `NotFound` if contracts know that it names nothing. The opener counts that it was asked, but no failure.
+    /// The path can't be opened: `NotFound` if contracts know that it names nothing. The opener counts that it was asked, and that it could
+    /// not open the path, with the reason.
     fn open_text(&mut self, path: &str) -> Result<CountedRead<Self::Text>, OpenFailed>
-        ensures once { OpensOnce (view self.old) (view self.new) }
+        ensures once { OpensOnce (view self.old) (view self.new) result }
         ensures failures { IfOk result (λ text. (view_of Self.Text.remaining text).failures ≡ 0) }
         ensures bytes { OpensText is_transparent Self.Text.remaining (named self.old path.now) result };
 

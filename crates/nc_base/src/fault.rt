@@ -1,7 +1,7 @@
 //! What can be wrong with the bytes of a header.
 
-ghost use Rattle.std.specs.Prelude.{◌≡◌};
-ghost use Rattle.nc_base.specs.FaultWords.{fault_words};
+ghost use Rattle.std.specs.Prelude.{◌≡◌, Some};
+ghost use Rattle.nc_base.specs.FaultWords.{fault_words, format_text};
 
 use std::error::Error;
 use std::fmt;
@@ -61,8 +61,11 @@ impl FormatFault {
 }
 
 impl fmt::Display for FormatFault {
+    ghost output = { λ fault. Some (format_text fault) };
+
     /// Writes the words for the fault, such as `bad tag`, or `unknown version 7` with the version byte in decimal. The fault lines of
     /// `ncdump` have the same words.
+    #[tactic(auto, unfolding(crate::specs::FaultWords::format_text, crate::specs::Bytes::concat_parts))]
     fn fmt<W: fmt::Write>(&self, f: &mut fmt::Formatter<W>) -> fmt::Result {
         match self {
             FormatFault::UnknownVersion(byte) => write!(f, "{}{byte}", self.words()),

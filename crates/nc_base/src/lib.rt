@@ -46,7 +46,7 @@ pub use fault::FormatFault;
 pub use fill::{fill_of, prints_fill};
 pub use header::{Att, Dim, Header, NumRecs, Var};
 pub use listed_array::{ListedArray, Run};
-pub use name::is_valid_name;
+pub use name::check_name;
 pub use named::Named;
 pub use nc_type::NcType;
 pub use number::number_of;

@@ -8,14 +8,14 @@ ghost use Rattle.nc_base.specs.Names.{is_name, has_name_bytes, ends_with_space, 
 /// Returns true if the bytes are a name that a dimension, a variable or an attribute may have (`name` of the NetCDF Classic Format
 /// Specification). Such a name is UTF-8, isn't empty, and doesn't end with a space. It begins with a letter, a digit, `_` or a character
 /// beyond ASCII; after that come printing ASCII characters other than `/`, or characters beyond ASCII.
-pub fn is_valid_name(name: &[u8]) -> bool
+pub fn check_name(name: &[u8]) -> bool
     ensures { result ≡ is_name name.now }
 {
     has_name_bytes(name) && !ends_with_space(name) && is_utf8(name)
 }
 
 /// Returns true if `name` isn't empty, its first byte may begin a name, and each other byte may follow in one. This is the part of
-/// [`is_valid_name`] that looks at each byte by itself.
+/// [`check_name`] that looks at each byte by itself.
 fn has_name_bytes(name: &[u8]) -> bool
     ensures { result ≡ has_name_bytes name.now }
 {

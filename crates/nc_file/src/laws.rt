@@ -1,9 +1,12 @@
 //! Laws of the grammar of a header, each the contract of a function that does nothing.
 
-ghost use Rattle.std.specs.Prelude.{ℕ, List};
+ghost use Rattle.std.specs.Prelude.{ℕ, ◌≤◌, List, length};
 ghost use Rattle.nc_base.specs.FileLaws.{FilesHoldTheirDatasets, FilesHoldOneDataset, FilesAreDumpedAsTheirText, GeneratedFilesAreDumped};
 ghost use Rattle.nc_file.specs.OneOutcome.{HasOneOutcome};
+ghost use Rattle.nc_base.specs.GeneratedFile.{header_spelling};
 ghost use Rattle.nc_base.specs.HeaderLaws.{WrittenHeadersReadBack};
+ghost use Rattle.nc_base.specs.code.Weight.{weight_of};
+ghost use Rattle.nc_base.specs.declared.header.Header.{Header};
 
 /// States a law, and does nothing. Each list of bytes begins with a header by the grammar, or has a first wrong field, but never both. If
 /// it begins with a header, then there is only one such header, and only one rest after it. If it has a first wrong field, then there is
@@ -12,7 +15,7 @@ ghost use Rattle.nc_base.specs.HeaderLaws.{WrittenHeadersReadBack};
 ///
 /// What bytes spell and where the first wrong field lies are relations, which don't say how to read. This law says that they leave no
 /// choice.
-pub fn one_header_or_one_fault()
+pub fn one_header()
     ensures { (bytes : List ℕ) → HasOneOutcome bytes }
 {}
 
@@ -35,4 +38,11 @@ pub fn file_reads_back()
     ensures one { FilesHoldOneDataset }
     ensures dumped { FilesAreDumpedAsTheirText }
     ensures generated { GeneratedFilesAreDumped }
+{}
+
+/// States a law, and does nothing. The weight of a header (`nc_base::weight`) is at most the number of bytes that its spelling has
+/// ([`header_len`](crate::header_len)). So what is kept of a header that was read is at most what was read of it.
+#[tactic(auto, using(crate::proofs::Weights::weighs_no_more))]
+pub fn weight_is_within_spelling()
+    ensures { (h : Header) → weight_of h ≤ length (header_spelling h) }
 {}

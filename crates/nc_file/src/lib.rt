@@ -24,8 +24,9 @@ mod window;
 mod write;
 
 pub use devices::{
-    DripSource, FailWhen, FileSource, IoSink, MemFile, MemFiles, MemSink, MemSource, OpenFailed,
-    Opener, Sink, SinkFailed, SliceSink, Source, SourceFailed, SystemFiles, WriteFailed, put,
+    CountedRead, DripSource, FailWhen, FileSource, Flush, IoSink, MemFile, MemFiles, MemSink,
+    MemSource, OpenFailed, Opener, Sink, SinkFailed, SliceSink, Source, SourceFailed, SystemFiles,
+    WriteFailed, put,
 };
 pub use head_fault::HeadFault;
 pub use read::{is_dimid, read_header, total_with, type_in};

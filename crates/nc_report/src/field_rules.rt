@@ -6,7 +6,7 @@ ghost use Rattle.nc_report.specs.Indexed.{field_at, finding, finding_at, indexed
 ghost use Rattle.nc_report.specs.FieldRules.{bytes_fact, content_facts, fault_fact, field_findings, findings_at, floating_finding, floating_findings, form_fact, has_nonzero, is_floating_in, is_large_count, is_not_nfc, magic_fact, number_fact};
 
 use crate::finding::{Fact, Finding, finding_at, push_some};
-use nc_base::{FormatFault, Sequence, is_valid_name};
+use nc_base::{FormatFault, Sequence, check_name};
 use nc_fields::{Content, Entry, FieldKind, HDF5_SIGNATURE};
 use std::alloc::{AllocError, Global};
 use unicode_normalization::is_nfc;
@@ -160,7 +160,7 @@ fn bytes_fact(field: FieldKind, bytes: &[u8]) -> Option<Fact>
     ensures { result ≡ bytes_fact field bytes.now }
 {
     match field {
-        FieldKind::Name => (!is_valid_name(bytes)).then_some(Fact::NameCharacters),
+        FieldKind::Name => (!check_name(bytes)).then_some(Fact::NameCharacters),
         FieldKind::NamePadding | FieldKind::Padding => {
             has_nonzero(bytes).then_some(Fact::Padding)
         }

@@ -6,7 +6,7 @@ use Rattle.std.specs.Io.KnownBytes.{Consumes}
 use Rattle.std.specs.List.{list_any}
 use Rattle.nc_base.specs.Bytes.{Bytes}
 use Rattle.devices.specs.Failures.{HasFailed, one_more}
-use Rattle.devices.specs.Openers.{OpenerView}
+use Rattle.devices.specs.Openers.{OpenerView, refuse}
 use Rattle.devices.specs.Readers.{ReaderView}
 use Rattle.devices.specs.Sinks.{SinkView, Appended, FailedPartway}
 use Rattle.devices.specs.Uses.{Use}
@@ -73,9 +73,15 @@ WriteFailsOnly old new (Ok done) = new.failures ≡ old.failures
 WriteFailsOnly old new (Err WriteFailed) = HasFailed old.failures new.failures
 WriteFailsOnly old new (Err _) = new ≡ old
 
--- the opener was asked for one path, and a source has failed exactly if the answer says so
+-- a path could not be opened exactly if the answer says so, with the reason that the opener gave
+abbrev pub RefusesOnly : {A : Type 0} → OpenerView → OpenerView → Result A FileFault → Type 0
+RefusesOnly old new (Err (CannotOpen why)) = new.refusals ≡ refuse old.refusals why
+RefusesOnly old new _ = new.refusals ≡ old.refusals
+
+-- the opener was asked for one path; that it could not open it, or that a source has failed, is so exactly if the answer says so
 pub record OpensFile {A : Type 0} (old new : OpenerView) (answer : Result A FileFault) : Type 0 where
   pub opens : new.opens ≡ one_more old.opens
+  pub refusals : RefusesOnly old new answer
   pub reads : ReadFailsOnly old.failures new.failures answer
 
 -- ---- one path of a run

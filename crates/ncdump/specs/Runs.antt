@@ -1,20 +1,21 @@
 -- Definition. What a run of the program has done.
-use Rattle.std.specs.Prelude.{ℕ, ◌≡◌, ◌⊎◌, List, [], Option, Some, None, IsSomeAnd, Result, Ok, Err, string_bytes}
+use Rattle.std.specs.Prelude.{ℕ, ◌≡◌, ◌⊎◌, false, List, Option, Some, None, IsSomeAnd, Result, Ok, Err, string_bytes}
 use Rattle.std.specs.Bool.{OnTrue}
 use Rattle.std.specs.Borrow.{Bor}
 use Rattle.nc_base.specs.Bytes.{Bytes}
 use Rattle.nc_base.specs.Dump.{Options}
 use Rattle.devices.specs.Failures.{HasFailed, one_more}
 use Rattle.devices.specs.Openers.{OpenerView, OpenerUse}
+use Rattle.devices.specs.code.PathOpens.{unopened}
 use Rattle.devices.specs.Sinks.{SinkView, Appended, FailedPartway}
-use Rattle.devices.specs.Uses.{Use, between}
+use Rattle.devices.specs.Uses.{Use}
 use Rattle.ncdump.specs.CommandLine.{Asked, asked_by}
 use Rattle.ncdump.specs.Dumps as dumps
 use Rattle.ncdump.specs.Faults.{line_of_failure}
 use Rattle.cli_base.specs.Arguments.{texts_of}
 use Rattle.cli_base.specs.declared.fault.OptFault.TheVariants.{OutOfMemory, Usage}
 use Rattle.ncdump.specs.declared.{fault.Failure.Failure, fault.FileFault.FileFault, fault.DumpFault.DumpFault, fault.DumpFault.TheVariants.ReadFailed}
-use Rattle.ncdump.specs.declared.fault.Failure.TheVariants.{CommandLine, File, Flush}
+use Rattle.ncdump.specs.declared.fault.Failure.TheVariants.{CommandLine, File}
 use Rattle.ncdump.specs.declared.fault.FileFault.TheVariants.{CannotOpen, Dump}
 
 -- ---- the dump of a file
@@ -34,9 +35,14 @@ abbrev pub ReadFailsOnly : {A : Type 0} → OpenerView → OpenerView → Result
 ReadFailsOnly old new (Err (Dump ReadFailed)) = HasFailed old.failures new.failures
 ReadFailsOnly old new _ = new.failures ≡ old.failures
 
--- the opener was asked for one path, and a source has failed exactly if the answer says so
+abbrev pub RefusesOnly : {A : Type 0} → OpenerView → OpenerView → Result A FileFault → Type 0
+RefusesOnly old new (Err CannotOpen) = HasFailed old.refusals.count new.refusals.count
+RefusesOnly old new _ = new.refusals ≡ old.refusals
+
+-- the opener was asked for one path; that it could not open it, or that a source has failed, is so exactly if the answer says so
 pub record OpensFile {A : Type 0} (old new : OpenerView) (answer : Result A FileFault) : Type 0 where
   pub opens : new.opens ≡ one_more old.opens
+  pub refusals : RefusesOnly old new answer
   pub reads : ReadFailsOnly old new answer
 
 pub record DumpsPath {A : Type 0} (path : Bytes) (o : Options) (files : OpenerUse) (out : Use SinkView) (answer : Result A FileFault) : Type 0 where
@@ -56,40 +62,30 @@ abbrev pub run_of : List (Bor Bytes) → OpenerUse → Use SinkView → Run
 run_of words files out = record { asked = asked_by (texts_of words); files = files; out = out }
 
 -- no file was opened, and nothing was written
-pub record IsUntouched (run : Run) (out : SinkView) : Type 0 where
+pub record IsUntouched (run : Run) : Type 0 where
   pub files : run.files.after ≡ run.files.before
-  pub same : out ≡ run.out.before
+  pub same : run.out.after ≡ run.out.before
 
--- `out`: standard output after the dump that is asked for
-abbrev pub DumpsAsked : {A : Type 0} → Run → SinkView → Result A Failure → Type 0
-DumpsAsked run out (Ok done) = IsSomeAnd run.asked (λ a. DumpsPath a.file a.options run.files (between run.out.before out) (Ok done))
-DumpsAsked {A} run out (Err (File path fault)) =
-    IsSomeAnd run.asked (λ a. (string_bytes path ≡ a.file) × DumpsPath {A = A} a.file a.options run.files (between run.out.before out) (Err fault))
-DumpsAsked run out (Err (CommandLine Usage)) = (run.asked ≡ None) × IsUntouched run out
-DumpsAsked run out (Err (CommandLine OutOfMemory)) = IsUntouched run out
-DumpsAsked run out (Err Flush) = ⊥
+abbrev pub DumpsAsked : {A : Type 0} → Run → Result A Failure → Type 0
+DumpsAsked run (Ok done) = IsSomeAnd run.asked (λ a. DumpsPath a.file a.options run.files run.out (Ok done))
+DumpsAsked {A} run (Err (File path fault)) =
+    IsSomeAnd run.asked (λ a. (string_bytes path ≡ a.file) × DumpsPath {A = A} a.file a.options run.files run.out (Err fault))
+DumpsAsked run (Err (CommandLine Usage)) = (run.asked ≡ None) × IsUntouched run
+DumpsAsked run (Err (CommandLine OutOfMemory)) = IsUntouched run
 
 -- ---- the run
-
--- the dump gave this answer, and then standard output was flushed, as `Flushed` says (that nothing is held back then is the clause
--- `flushed` of `run_with`)
-pub record DumpsThenFlushes {A : Type 0} (run : Run) (answer : Result A Failure) (Flushed : SinkView → Type 0) : Type 0 where
-  pub out : SinkView
-  pub dumped : DumpsAsked run out answer
-  pub flushed : Flushed out
-
--- with `Flush`, only the flush failed; with any other failure the dump failed, whatever the flush did
-abbrev pub Runs : {A : Type 0} → Run → Result A Failure → Type 0
-Runs run (Ok done) = DumpsThenFlushes run (Ok done) (λ out. Appended out run.out.after [])
-Runs run (Err Flush) = DumpsThenFlushes {A = Unit {0}} run (Ok tt) (λ out. FailedPartway out run.out.after [])
-Runs {A} run (Err failure) = DumpsThenFlushes {A = A} run (Err failure) (λ out. Appended out run.out.after [] ⊎ FailedPartway out run.out.after [])
 
 -- the failure line, or a prefix of it, was written to standard error
 pub record Fails (run : Run) (err : Use SinkView) : Type 0 where
   pub failure : Failure
-  pub fails : Runs {A = Unit {0}} run (Err failure)
+  pub fails : DumpsAsked {A = Unit {0}} run (Err failure)
   pub line : Appended err.before err.after (line_of_failure failure) ⊎ FailedPartway err.before err.after (line_of_failure failure)
 
--- with status 0, nothing was written to standard error
+-- with status 0 the dump that is asked for was written, and nothing was written to standard error
 abbrev pub Ends : Run → Use SinkView → ℕ → Type 0
-Ends run err status = ((status ≡ 0) × Runs {A = Unit {0}} run (Ok tt) × (err.after ≡ err.before)) ⊎ ((status ≡ 1) × Fails run err)
+Ends run err status = ((status ≡ 0) × DumpsAsked {A = Unit {0}} run (Ok tt) × (err.after ≡ err.before)) ⊎ ((status ≡ 1) × Fails run err)
+
+-- the same of the files of the system, whose bytes no contract knows, and of which none had been opened before
+pub record EndsOverSystem (words : List (Bor Bytes)) (out err : Use SinkView) (status : ℕ) : Type 0 where
+  pub files : OpenerView
+  pub ends : Ends (run_of words (record { is_transparent = false; named = λ _. None; before = unopened; after = files }) out) err status

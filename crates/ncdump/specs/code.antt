@@ -1,4 +1,3 @@
-pub mod Flushed
 pub mod HeadFaults
 pub mod Names
 pub mod Options

@@ -3,11 +3,11 @@
 ghost use Rattle.std.specs.Prelude.{◌≡◌};
 ghost use Rattle.ncdump.specs.code.HeadFaults.{fault_of_head};
 ghost use Rattle.ncdump.specs.declared.fault.DumpFault.TheVariants.{OutOfMemory as out_of_memory, WriteFailed as write_failed};
-ghost use Rattle.ncdump.specs.declared.fault.Failure.TheVariants.{CommandLine as command_line, Flush as flush};
+ghost use Rattle.ncdump.specs.declared.fault.Failure.TheVariants.{CommandLine as command_line};
 ghost use Rattle.ncdump.specs.declared.fault.FileFault.TheVariants.{CannotOpen, Dump};
 
 use cli_base::OptFault;
-use devices::{OpenFailed, SinkFailed, WriteFailed};
+use devices::{OpenFailed, WriteFailed};
 use nc_base::FormatFault;
 use nc_file::HeadFault;
 use std::alloc::AllocError;
@@ -50,8 +50,6 @@ pub enum Failure {
     CommandLine(OptFault),
     /// The file at this path could not be opened or dumped.
     File(String, FileFault),
-    /// The dump succeeded, but the flush of standard output after it failed.
-    Flush,
 }
 
 impl From<HeadFault> for DumpFault {
@@ -109,15 +107,5 @@ impl From<OptFault> for Failure {
     /// Turns a fault of the command line into [`Failure::CommandLine`] with this fault, for the `?` after the words are read.
     fn from(fault: OptFault) -> Failure {
         Failure::CommandLine(fault)
-    }
-}
-
-/// Only the flush after the dump gives a `SinkFailed`: a failed write is a `WriteFailed`.
-impl From<SinkFailed> for Failure {
-    ghost from_gives = { λ _ e. e ≡ flush };
-
-    /// Turns a failed flush into [`Failure::Flush`], for the `?` after the flush.
-    fn from(_failure: SinkFailed) -> Failure {
-        Failure::Flush
     }
 }

@@ -2,7 +2,8 @@
 
 ghost use Rattle.std.specs.Prelude.{◌≡◌};
 ghost use Rattle.devices.specs.code.SinkWrites.{Wrote};
-ghost use Rattle.ncdump.specs.Faults.{fault_text, file_line, file_text, format_text, item_words, line_of_failure, opt_fault_line, truncated_words, usage_line};
+ghost use Rattle.nc_base.specs.FaultWords.{format_text};
+ghost use Rattle.ncdump.specs.Faults.{fault_text, file_line, file_text, item_words, line_of_failure, opt_fault_line, truncated_words, usage_line};
 ghost use Rattle.ncdump.specs.declared.fault.DumpFault.TheVariants.{DataTruncated, NoSuchVariable};
 
 use crate::fault::{DumpFault, Failure, FileFault};
@@ -22,19 +23,18 @@ const OF_NAMES: &str = " of -v";
 
 const VARIABLE: &str = "variable ";
 
-/// Writes the line that says why a run failed: a fault of the command line, of the file or of the last flush.
+/// Writes the line that says why a run failed: a fault of the command line or of the file.
 ///
 /// # Errors
 ///
 /// The sink failed. It took some prefix of the line.
-#[tactic(auto, unfolding(crate::specs::Faults::line_of_failure, crate::specs::Faults::flush_fault_line))]
+#[tactic(auto, unfolding(crate::specs::Faults::line_of_failure))]
 pub(crate) fn put_failure<W: Sink>(sink: &mut W, failure: &Failure) -> Result<(), WriteFailed>
     ensures { Wrote W.view sink.old sink.new (line_of_failure failure.now) result }
 {
     match failure {
         Failure::CommandLine(fault) => put_command_line_fault(sink, *fault),
         Failure::File(path, fault) => put_file_fault(sink, path.as_bytes(), *fault),
-        Failure::Flush => put(sink, b"ncdump: write failed\n"),
     }
 }
 
@@ -138,7 +138,7 @@ fn put_missing_value<W: Sink>(sink: &mut W, var: usize, value: u128) -> Result<(
 
 /// Writes the message for the first wrong field of a header: the words of `fault`, and, for an unknown version, the version byte in
 /// decimal. Errs if the sink fails.
-#[tactic(auto, using(devices::proofs::Writes::writes), unfolding(crate::specs::Faults::format_text))]
+#[tactic(auto, using(devices::proofs::Writes::writes), unfolding(nc_base::specs::FaultWords::format_text))]
 fn put_format_fault<W: Sink>(sink: &mut W, fault: FormatFault) -> Result<(), WriteFailed>
     ensures { Wrote W.view sink.old sink.new (format_text fault) result }
 {

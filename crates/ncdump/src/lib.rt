@@ -1,8 +1,8 @@
 //! The dump of a netCDF classic file as CDL text, and the command line of the program `ncdump`.
 //!
 //! [`dump`] reads a file and writes its text. If `dump` fails, [`fault_line`] writes why. [`DumpOptions`] says what is shown, and under
-//! which name; [`options_of`] makes these options from the matches of [`command`]. [`run_with`] is the whole program, but its caller
-//! gives it the opener of files and the standard streams, and flushes standard error.
+//! which name; [`options_of`] makes these options from the matches of [`command`]. [`run`] is the whole program, but its caller gives
+//! it the standard streams and flushes them; [`run_with`] is the same over any opener of files.
 //!
 //! ```
 //! let options = DumpOptions {
@@ -36,6 +36,6 @@ pub use dumping::dump;
 pub use fault::DumpFault;
 pub use fault_text::{fault_line, put_command_line_fault};
 pub use options::DumpOptions;
-pub use running::run_with;
+pub use running::{run, run_with};
 pub use selection::select;
 pub use showing::show;

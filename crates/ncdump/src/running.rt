@@ -1,13 +1,12 @@
 //! A run of the program.
 
-ghost use Rattle.std.specs.Prelude.{◌≡◌, IfOk, string_bytes, true};
+ghost use Rattle.std.specs.Prelude.{◌≡◌, string_bytes};
 ghost use Rattle.std.specs.Bool.{OnTrue};
 ghost use Rattle.devices.specs.Openers.{opener_use};
 ghost use Rattle.devices.specs.Uses.{use_of};
 ghost use Rattle.ncdump.specs.Dumps.{options_of, Dumps};
 ghost use Rattle.ncdump.specs.Dumps as dumps;
-ghost use Rattle.ncdump.specs.Runs.{run_of, DumpsAsked, DumpsFile, Ends, OfDump, OpensFile, Runs};
-ghost use Rattle.ncdump.specs.code.Flushed.{IsFlushedUnlessFailed};
+ghost use Rattle.ncdump.specs.Runs.{run_of, DumpsAsked, DumpsFile, Ends, EndsOverSystem, OfDump, OpensFile};
 ghost use Rattle.ncdump.specs.code.Shows.{ReadFailsOnly};
 
 use crate::command_line::options_of_words;
@@ -15,62 +14,51 @@ use crate::dumping::dump;
 use crate::fault::{Failure, FileFault};
 use crate::fault_text::put_failure;
 use crate::options::DumpOptions;
-use devices::{Flush, Opener, Sink, Source};
+use devices::{Opener, Sink, Source, SystemFiles};
 use std::alloc::Global;
+use std::fs::File;
+use std::rt::Files;
+
+/// Runs the program on the files of the system that `rt` stands for, and returns its exit status, as [`run_with`] does.
+pub fn run<R: Files<File = File>, O: Sink, E: Sink>(
+    rt: &R,
+    alloc: Global,
+    words: &[&str],
+    out: &mut O,
+    err: &mut E,
+) -> u8
+    ensures { EndsOverSystem words.now
+        (use_of O.view out.old out.new) (use_of E.view err.old err.new) result }
+{
+    run_with(&mut SystemFiles::new(rt), alloc, words, out, err)
+}
 
 /// Runs the program, and returns its exit status. `words` is the command line, with the program's name first; `opener` opens the file;
 /// `out` is standard output, and `err` is standard error.
 ///
-/// The status is 0 if the dump that the words ask for was written to standard output, and standard output was flushed. Otherwise the status
-/// is 1, and a line on standard error names the first failure: of the command line, of opening the file, of its dump, or of the flush. If
-/// standard error fails, the status stays 1. Standard output is flushed before the line is written, but no clause has this order. Standard
-/// error is not flushed.
-pub fn run_with<P: Opener, O: Flush, E: Sink>(
+/// The status is 0 if the dump that the words ask for was written to standard output. Otherwise the status is 1, and a line on standard
+/// error names the failure: of the command line, of opening the file, or of its dump. If standard error fails, the status stays 1. Neither
+/// is flushed.
+pub fn run_with<P: Opener, O: Sink, E: Sink>(
     opener: &mut P,
     alloc: Global,
     words: &[&str],
     out: &mut O,
     err: &mut E,
 ) -> u8
-    ensures ends { Ends
+    ensures { Ends
         (run_of words.now
         (opener_use P.Source.is_transparent P.named P.view opener.old opener.new)
-        (use_of O.Sink.view out.old out.new))
+        (use_of O.view out.old out.new))
         (use_of E.view err.old err.new) result }
-    ensures flushed { result ≡ 0 → O.is_flushed out.new ≡ true }
-    ensures flushed_anyway { IsFlushedUnlessFailed (O.is_flushed out.new)
-        (O.Sink.view out.old).failures (O.Sink.view out.new).failures }
 {
-    match dump_and_flush(opener, alloc, words, out) {
+    match dump_for_words(opener, alloc, words, out) {
         Ok(()) => 0,
         Err(failure) => {
             let _ = put_failure(err, &failure);
             1
         }
     }
-}
-
-/// Writes the dump that the words ask for, and then flushes `out`, also if the dump failed. Errs with the failure of the dump
-/// ([`dump_for_words`]), otherwise with `Flush` if the flush failed.
-fn dump_and_flush<P: Opener, O: Flush>(
-    opener: &mut P,
-    alloc: Global,
-    words: &[&str],
-    out: &mut O,
-) -> Result<(), Failure>
-    ensures runs { Runs
-        (run_of words.now
-        (opener_use P.Source.is_transparent P.named P.view opener.old opener.new)
-        (use_of O.Sink.view out.old out.new)) result }
-    ensures flushed { IfOk result (λ _. O.is_flushed out.new ≡ true) }
-    ensures flushed_anyway { IsFlushedUnlessFailed (O.is_flushed out.new)
-        (O.Sink.view out.old).failures (O.Sink.view out.new).failures }
-{
-    let dumped = dump_for_words(opener, alloc, words, out);
-    let flushed = out.flush();
-    dumped?;
-    flushed?;
-    Ok(())
 }
 
 /// Opens the file that the words name, writes its dump to `out`, and gives the file back to `opener`. Errs with `CommandLine` if the
@@ -85,8 +73,7 @@ fn dump_for_words<P: Opener, O: Sink>(
     ensures { DumpsAsked
         (run_of words.now
         (opener_use P.Source.is_transparent P.named P.view opener.old opener.new)
-        (use_of O.view out.old out.new))
-        (O.view out.new) result }
+        (use_of O.view out.old out.new)) result }
 {
     let options = options_of_words(alloc, words)?;
     match open_and_dump(opener, alloc, &options, out) {

@@ -2,13 +2,16 @@
 //!
 //! If it can't write the text to standard output, one line on standard error says why, and the exit status is 1.
 //!
-//! [`ncdump::run_with`] does all of this. This crate gives it the words of the command line, the files of the system, and the standard
-//! streams through buffers. The text is flushed before the line is written.
+//! [`ncdump::run`] does all of this. This crate gives it the words of the command line, and the standard streams through buffers, which it
+//! flushes. If only this flush of standard output fails, no line says so.
 #![tactic(auto)]
 
+ghost use Rattle.std.specs.Prelude.{◌≡◌, true};
+
 use cli_base::OptFault;
-use devices::{Flush, IoSink, SystemFiles};
-use ncdump::{put_command_line_fault, run_with};
+use devices::{Flush, IoSink, Sink};
+use ncdump::{put_command_line_fault, run};
+use std::alloc::Global;
 use std::fs::File;
 use std::io::{BufWriter, Write};
 use std::process::ExitCode;
@@ -18,8 +21,12 @@ use std::{env, io};
 /// The capacity, in bytes, of the buffer between the text and standard output.
 const TEXT_HELD_BACK: usize = 65536;
 
-/// The capacity, in bytes, of the buffer before standard error. A line that fits in the buffer is passed on in one write.
-const LINE_HELD_BACK: usize = 4096;
+/// The capacity, in bytes, of the buffer before standard error. It holds the line of any file that can be opened, since a path has at most
+/// 4,095 bytes then: so the line is passed on after the text, in one write.
+const LINE_HELD_BACK: usize = 8192;
+
+/// The exit status after a failure.
+const FAILED: u8 = 1;
 
 /// Runs the program, and returns its exit status: 0, or 1 after a failure.
 fn main(rt: HostRuntime) -> ExitCode {
@@ -28,14 +35,14 @@ fn main(rt: HostRuntime) -> ExitCode {
         Err(fault) => {
             // A line that standard error doesn't take changes no status.
             let _ = put_command_line_fault(&mut IoSink::new(rt.stderr()), fault);
-            ExitCode::FAILURE
+            ExitCode::from(FAILED)
         }
     }
 }
 
 /// Runs the program on the words that it was called with, with `stderr` as standard error, and returns its exit status. Errs with
 /// `Usage` if a word isn't UTF-8, and with `OutOfMemory` if an allocation failed before the run. A failure in the run is no error:
-/// [`run_with`] reports it on `stderr`, and the status is 1.
+/// [`run`] reports it on `stderr`, and the status is 1.
 fn run_words<R: Env + Files<File = File> + Print + AllocGlobal, E: Write + Drop>(
     rt: &R,
     stderr: E,
@@ -43,10 +50,27 @@ fn run_words<R: Env + Files<File = File> + Print + AllocGlobal, E: Write + Drop>
     let alloc = rt.alloc();
     let arguments: Vec<String> = env::args(rt)?.collect(alloc)?;
     let words: Vec<&str> = arguments.iter().map(|word| word.as_str()).collect(alloc)?;
-    let mut files = SystemFiles::new(rt);
     let mut out = IoSink::new(BufWriter::with_capacity(alloc, TEXT_HELD_BACK, io::writer(rt))?);
     let mut err = IoSink::new(BufWriter::with_capacity(alloc, LINE_HELD_BACK, stderr)?);
-    let status = run_with(&mut files, alloc, words.as_slice(), &mut out, &mut err);
+    let status = run_and_flush(rt, alloc, words.as_slice(), &mut out, &mut err);
     let _ = err.flush();
     Ok(status)
+}
+
+/// Runs the program on these words, and flushes `out`, also after a failure. Returns the exit status: that of the run, or 1 if the flush
+/// failed.
+fn run_and_flush<R: Files<File = File>, O: Flush, E: Sink>(
+    rt: &R,
+    alloc: Global,
+    words: &[&str],
+    out: &mut O,
+    err: &mut E,
+) -> u8
+    ensures { result ≡ 0 → O.is_flushed out.new ≡ true }
+{
+    let status = run(rt, alloc, words, out, err);
+    match out.flush() {
+        Ok(()) => status,
+        Err(_) => FAILED,
+    }
 }

@@ -32,7 +32,7 @@ unfoldable pub input_words : InputFault → Bytes
 input_words input.CannotOpen = codes "cannot open"
 input_words (input.Text text.OutOfMemory) = codes "out of memory"
 input_words (input.Text text.ReadFailed) = codes "read failed"
-input_words (input.Text text.TooLong) = codes "CDL text too long"
+input_words (input.Text text.CdlTooLong) = codes "CDL text too long"
 input_words (input.Generate fault) = fault_text fault
 
 unfoldable pub output_words : OutputFault → Bytes

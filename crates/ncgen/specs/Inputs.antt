@@ -13,7 +13,7 @@ use Rattle.ncgen.specs.Generated.{generated}
 use Rattle.ncgen.specs.Generates.{Refuses}
 use Rattle.ncgen.specs.code.TextReads.{ReadsText}
 use Rattle.ncgen.specs.declared.{fault.GenFault.GenFault, failure.InputFault.InputFault}
-use Rattle.ncgen.specs.declared.fault.TextFault.TheVariants.{ReadFailed, TooLong}
+use Rattle.ncgen.specs.declared.fault.TextFault.TheVariants.{ReadFailed, CdlTooLong}
 use Rattle.ncgen.specs.declared.failure.InputFault.TheVariants.{CannotOpen, Text, Generate}
 
 -- what opens texts, and standard input
@@ -22,6 +22,11 @@ pub record Inputs : Type 0 where
   pub input : Use ReaderView
 
 -- ---- reading the text
+
+-- A path could not be opened if the answer is `CannotOpen`, and not otherwise.
+abbrev pub RefusesOnly : {A : Type 0} → OpenerView → OpenerView → Result A InputFault → Type 0
+RefusesOnly old new (Err CannotOpen) = HasFailed old.refusals.count new.refusals.count
+RefusesOnly old new _ = new.refusals ≡ old.refusals
 
 -- A reader has failed if the answer is `ReadFailed`, and not otherwise.
 abbrev pub ReadFailsOnly : {A : Type 0} → OpenerView → OpenerView → Result A InputFault → Type 0
@@ -32,7 +37,7 @@ ReadFailsOnly old new _ = new.failures ≡ old.failures
 abbrev pub ReadsAt : Bool → Option Bytes → Result (Vec ℕ) InputFault → Type 0
 ReadsAt is_transparent named (Ok text) = (length text.items ≤ text_limit) × OnTrue is_transparent (named ≡ Some text.items)
 ReadsAt is_transparent named (Err CannotOpen) = OnTrue is_transparent (named ≡ None)
-ReadsAt is_transparent named (Err (Text TooLong)) = OnTrue is_transparent (IsSomeAnd named (λ text. text_limit < length text))
+ReadsAt is_transparent named (Err (Text CdlTooLong)) = OnTrue is_transparent (IsSomeAnd named (λ text. text_limit < length text))
 ReadsAt is_transparent named (Err (Text fault)) = OnTrue is_transparent (IsSome named)
 ReadsAt is_transparent named (Err (Generate fault)) = ⊥
 
@@ -40,6 +45,7 @@ ReadsAt is_transparent named (Err (Generate fault)) = ⊥
 pub record ReadsPath (texts : OpenerUse) (path : Bytes) (answer : Result (Vec ℕ) InputFault) : Type 0 where
   pub text : ReadsAt texts.is_transparent (texts.named path) answer
   pub opens : texts.after.opens ≡ one_more texts.before.opens
+  pub refusals : RefusesOnly texts.before texts.after answer
   pub reads : ReadFailsOnly texts.before texts.after answer
 
 abbrev pub ReadsStandardInput : Use ReaderView → Result (Vec ℕ) InputFault → Type 0

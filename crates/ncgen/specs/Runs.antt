@@ -1,6 +1,10 @@
 -- Definition. What a run of the program has done.
-use Rattle.std.specs.Prelude.{ℕ, ◌≡◌, ◌⊎◌, Option, Some, None, option_map, string_bytes}
+use Rattle.std.specs.Prelude.{ℕ, ◌≡◌, ◌⊎◌, false, Option, Some, None, option_map, string_bytes}
 use Rattle.nc_base.specs.Bytes.{Bytes}
+use Rattle.devices.specs.Creators.{CreatorView}
+use Rattle.devices.specs.Openers.{OpenerView}
+use Rattle.devices.specs.Readers.{ReaderView}
+use Rattle.devices.specs.code.{Creations.uncreated, PathOpens.unopened}
 use Rattle.devices.specs.Sinks.{SinkView, Appended, FailedPartway}
 use Rattle.devices.specs.Uses.{Use}
 use Rattle.cli_base.specs.declared.fault.OptFault.{OptFault}
@@ -69,3 +73,14 @@ pub record Fails (run : Run) : Type 0 where
 abbrev pub Ends : Run → ℕ → Type 0
 Ends run status =
     ((status ≡ 0) × IsGenerated run.inputs run.outputs run.asked × (run.err.after ≡ run.err.before)) ⊎ ((status ≡ 1) × Fails run)
+
+-- the same over the files of the system, whose bytes no contract knows, and of which none had been opened or created before
+pub record EndsOverSystem (asked : Option Asked) (input : Use ReaderView) (err : Use SinkView) (status : ℕ) : Type 0 where
+  pub texts : OpenerView
+  pub outputs : CreatorView
+  pub ends : Ends (record {
+      asked = asked;
+      inputs = record { texts = record { is_transparent = false; named = λ _. None; before = unopened; after = texts }; input = input };
+      outputs = record { is_transparent = false; before = uncreated; after = outputs };
+      err = err
+    }) status

@@ -29,7 +29,7 @@ pub enum TextFault {
     /// The reader failed.
     ReadFailed,
     /// The text has more bytes than the caller of `read_text` allows.
-    TooLong,
+    CdlTooLong,
 }
 
 impl From<CdlFault> for GenFault {

@@ -158,7 +158,7 @@ fn input_words(fault: TextFault) -> &'static str
     match fault {
         TextFault::OutOfMemory => "out of memory",
         TextFault::ReadFailed => "read failed",
-        TextFault::TooLong => "CDL text too long",
+        TextFault::CdlTooLong => "CDL text too long",
     }
 }
 

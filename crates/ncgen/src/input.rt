@@ -5,7 +5,7 @@ ghost use Rattle.devices.specs.Failures.{one_more};
 ghost use Rattle.devices.specs.Openers.{opener_use};
 ghost use Rattle.devices.specs.Readers.{view_of};
 ghost use Rattle.devices.specs.Uses.{use_of};
-ghost use Rattle.ncgen.specs.Inputs.{ReadFailsOnly, ReadsAt, ReadsInput};
+ghost use Rattle.ncgen.specs.Inputs.{ReadFailsOnly, ReadsAt, ReadsInput, RefusesOnly};
 
 use crate::failure::InputFault;
 use crate::reading::read_text;
@@ -47,6 +47,7 @@ fn read_path<T: TextOpener>(
 ) -> Result<Vec<u8>, InputFault>
     ensures text { ReadsAt T.is_transparent (T.named opener.old path.now) result }
     ensures opens { (T.view opener.new).opens ≡ one_more (T.view opener.old).opens }
+    ensures refusals { RefusesOnly (T.view opener.old) (T.view opener.new) result }
     ensures reads { ReadFailsOnly (T.view opener.old) (T.view opener.new) result }
 {
     let mut reader = opener.open_text(path)?;

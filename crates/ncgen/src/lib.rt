@@ -2,9 +2,9 @@
 //!
 //! [`generate`] reads a CDL text and writes its file. [`prepare`] only reads the text, and returns the file ready to be written.
 //! [`read_text`] gets the bytes of a text from a reader. [`GenOptions`] says which text to read and where to write its file;
-//! [`options_of`] makes these options from the matches of [`command`]. If there is no file, [`fault_line`] writes why. [`run_with`] is
-//! the whole program, but its caller gives it the opener of texts, the creator of outputs and the standard streams, and flushes
-//! standard error.
+//! [`options_of`] makes these options from the matches of [`command`]. If there is no file, [`fault_line`] writes why. [`run`] is the
+//! whole program, but its caller gives it the standard streams, and flushes standard error; [`run_with`] is the same over any opener of
+//! texts and creator of outputs.
 //!
 //! ```
 //! const TEXT: &[u8] =
@@ -35,4 +35,4 @@ pub use generating::{generate, prepare};
 pub use options::GenOptions;
 pub use prepared::Prepared;
 pub use reading::read_text;
-pub use running::run_with;
+pub use running::{run, run_with};

@@ -19,7 +19,7 @@ const PART: usize = 65536;
 ///
 /// # Errors
 ///
-/// [`TextFault::TooLong`] if more than `max` bytes came, [`TextFault::ReadFailed`] if the reader failed, and
+/// [`TextFault::CdlTooLong`] if more than `max` bytes came, [`TextFault::ReadFailed`] if the reader failed, and
 /// [`TextFault::OutOfMemory`] if an allocation failed.
 pub fn read_text<R: Read>(
     alloc: Global,
@@ -37,7 +37,7 @@ pub fn read_text<R: Read>(
             return Ok(text);
         }
     }
-    Err(TextFault::TooLong)
+    Err(TextFault::CdlTooLong)
 }
 
 /// Reads the next bytes of the input through `buf`, and appends them to `text`, which then has at most `max + 1` bytes. More than `max`

@@ -6,7 +6,7 @@ ghost use Rattle.ncgen.specs.CommandLine.{asked_by};
 ghost use Rattle.devices.specs.Openers.{opener_use};
 ghost use Rattle.devices.specs.Readers.{view_of};
 ghost use Rattle.devices.specs.Uses.{use_of};
-ghost use Rattle.ncgen.specs.Runs.{Ends};
+ghost use Rattle.ncgen.specs.Runs.{Ends, EndsOverSystem};
 ghost use Rattle.ncgen.specs.code.Prepared.{file_of_prepared, IsReady};
 ghost use Rattle.ncgen.specs.code.RunSteps.{GeneratesAsked, PreparesInput, WritesAsked};
 
@@ -18,9 +18,27 @@ use crate::input::read_input;
 use crate::options::GenOptions;
 use crate::output::write_output;
 use crate::prepared::Prepared;
-use devices::{CountedRead, Creator, Sink, TextOpener};
+use devices::{CountedRead, Creator, Sink, SystemFiles, SystemOutputs, TextOpener};
 use std::alloc::Global;
+use std::fs::File;
 use std::io::Read;
+use std::rt::Files;
+
+/// Runs the program on the files of the system that `rt` stands for, and returns its exit status, as [`run_with`] does.
+pub fn run<F: Files<File = File>, R: Read, E: Sink>(
+    rt: &F,
+    alloc: Global,
+    words: &[&str],
+    input: &mut CountedRead<R>,
+    err: &mut E,
+) -> u8
+    ensures { EndsOverSystem (asked_by (texts_of words.now))
+        (use_of (view_of R.remaining) input.old input.new) (use_of E.view err.old err.new) result }
+{
+    let mut opener = SystemFiles::new(rt);
+    let mut creator = SystemOutputs::new(rt, alloc);
+    run_with(&mut opener, &mut creator, alloc, words, input, err)
+}
 
 /// Runs the program, and returns its exit status. `words` is the command line, with the program's name first; `opener` opens the text;
 /// `creator` creates the output; `input` is standard input, and `err` is standard error.

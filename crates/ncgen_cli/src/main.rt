@@ -2,13 +2,13 @@
 //!
 //! If it can't make the file, one line on standard error says why, and the exit status is 1.
 //!
-//! [`ncgen::run_with`] does all of this. This crate gives it the words of the command line, the files of the system, standard input, and
-//! standard error through a buffer.
+//! [`ncgen::run`] does all of this. This crate gives it the words of the command line, standard input, and standard error through a buffer,
+//! which it flushes.
 #![tactic(auto)]
 
 use cli_base::OptFault;
-use devices::{CountedRead, Flush, IoSink, SystemFiles, SystemOutputs};
-use ncgen::{put_command_line_fault, run_with};
+use devices::{CountedRead, Flush, IoSink};
+use ncgen::{put_command_line_fault, run};
 use std::env;
 use std::fs::File;
 use std::io::{BufWriter, Write};
@@ -32,7 +32,7 @@ fn main(rt: HostRuntime) -> ExitCode {
 
 /// Runs the program on the words that it was called with, with `stderr` as standard error, and returns its exit status. Errs with
 /// `Usage` if a word isn't UTF-8, and with `OutOfMemory` if an allocation failed before the run. A failure in the run is no error:
-/// [`run_with`] reports it on `stderr`, and the status is 1.
+/// [`run`] reports it on `stderr`, and the status is 1.
 fn run_words<R: Env + Files<File = File> + Input + AllocGlobal, E: Write + Drop>(
     rt: &R,
     stderr: E,
@@ -40,17 +40,9 @@ fn run_words<R: Env + Files<File = File> + Input + AllocGlobal, E: Write + Drop>
     let alloc = rt.alloc();
     let arguments: Vec<String> = env::args(rt)?.collect(alloc)?;
     let words: Vec<&str> = arguments.iter().map(|word| word.as_str()).collect(alloc)?;
-    let mut outputs = SystemOutputs::new(rt, alloc);
     let mut input = CountedRead::new(rt.reader());
     let mut err = IoSink::new(BufWriter::with_capacity(alloc, LINE_HELD_BACK, stderr)?);
-    let status = run_with(
-        &mut SystemFiles::new(rt),
-        &mut outputs,
-        alloc,
-        words.as_slice(),
-        &mut input,
-        &mut err,
-    );
+    let status = run(rt, alloc, words.as_slice(), &mut input, &mut err);
     let _ = err.flush();
     Ok(status)
 }

@@ -1,13 +1,82 @@
 //! Laws of files and texts, each the contract of a function that does nothing.
 //!
-//! The laws of the file alone are [`one_header_or_one_fault`], [`written_header_reads_back`] and [`file_reads_back`]. The laws of the
-//! text alone are [`token_reads_back`], [`array_reads_back`], [`piece_reads_back`] and [`text_reads_back`]. Below are the two laws that
-//! join file and text.
+//! The first six say again what the laws of the same names in `nc_file` and `cdl_laws` say, so that one page has all that joins a file and
+//! a text. Below are the two laws of the file that is generated from a text.
+//!
+//! "A text can declare a dataset" stands for `IsSayable`, and "a full dump" for a dump of all values under a valid name. The NULs at the
+//! end of attributes are those of attributes of characters.
 
+ghost use Rattle.std.specs.Prelude.{ℕ, List};
+ghost use Rattle.nc_base.specs.FileLaws.{FilesAreDumpedAsTheirText, FilesHoldOneDataset, FilesHoldTheirDatasets, GeneratedFilesAreDumped};
+ghost use Rattle.nc_base.specs.declared.version.Version.{Version};
+ghost use Rattle.nc_file.specs.OneOutcome.{HasOneOutcome};
+ghost use Rattle.cdl_laws.specs.PieceLaws.{AttributesReadBack, DataReadsBack, DeclarationsReadBack, DimensionsReadBack, GlobalAttributesReadBack, MarksReadBack, PiecesAreStatements};
+ghost use Rattle.cdl_laws.specs.RoundTrip.{TextReadsBack};
+ghost use Rattle.cdl_laws.specs.RowLaws.{EmptyRowsReadBack, RowsReadBack};
+ghost use Rattle.cdl_laws.specs.TokenLaws.{BlanksAndMarksStop, ConstantsReadBack, NamesReadBack, StringsReadBack, ValuesReadBack};
 ghost use Rattle.ncgen_laws.specs.Laws.{DumpsGenerateBack, FilesOfTextsAreDumped};
 
-pub use cdl_laws::laws::{array_reads_back, piece_reads_back, text_reads_back, token_reads_back};
-pub use nc_file::laws::{file_reads_back, one_header_or_one_fault, written_header_reads_back};
+/// States a law, and does nothing: each list of bytes begins with one header, or has one first wrong field with one fault, but never both
+/// ([`nc_file::laws::one_header`]).
+pub fn one_header()
+    ensures { (bytes : List ℕ) → HasOneOutcome bytes }
+{
+    nc_file::laws::one_header()
+}
+
+/// States four laws, and does nothing: the file of a good dataset holds that dataset and no other, and its dump is the text of the dataset
+/// ([`nc_file::laws::file_reads_back`]).
+pub fn file_reads_back()
+    ensures holds { FilesHoldTheirDatasets }
+    ensures one { FilesHoldOneDataset }
+    ensures dumped { FilesAreDumpedAsTheirText }
+    ensures generated { GeneratedFilesAreDumped }
+{
+    nc_file::laws::file_reads_back()
+}
+
+/// States a law, and does nothing: if a text can declare a dataset, then its full dump, at any width, means this dataset without the NULs
+/// at the end of its attributes ([`cdl_laws::laws::text_reads_back`]).
+pub fn text_reads_back()
+    ensures { TextReadsBack }
+{
+    cdl_laws::laws::text_reads_back()
+}
+
+/// States laws of tokens, and does nothing: what a dump prints of a name, a string or a number is read as one token, which says what was
+/// printed ([`cdl_laws::laws::token_reads_back`]).
+pub fn token_reads_back()
+    ensures names { NamesReadBack }
+    ensures strings { StringsReadBack }
+    ensures constants { ConstantsReadBack }
+    ensures values { ValuesReadBack }
+    ensures stops { BlanksAndMarksStop }
+{
+    cdl_laws::laws::token_reads_back()
+}
+
+/// States two laws, and does nothing: the rows that a dump lists of a variable are read as the variable's array
+/// ([`cdl_laws::laws::row_reads_back`]).
+pub fn row_reads_back()
+    ensures rows { RowsReadBack }
+    ensures empty { EmptyRowsReadBack }
+{
+    cdl_laws::laws::row_reads_back()
+}
+
+/// States laws of pieces, and does nothing: each statement of a dump is one piece, which declares or gives what was printed
+/// ([`cdl_laws::laws::piece_reads_back`]).
+pub fn piece_reads_back()
+    ensures pieces { PiecesAreStatements }
+    ensures marks { (v : Version) → MarksReadBack v }
+    ensures dimensions { DimensionsReadBack }
+    ensures declarations { DeclarationsReadBack }
+    ensures attributes { AttributesReadBack }
+    ensures global_attributes { GlobalAttributesReadBack }
+    ensures values { DataReadsBack }
+{
+    cdl_laws::laws::piece_reads_back()
+}
 
 /// States a law, and does nothing: if a file is generated from a CDL text, then it is the file of the dataset that the text declares. Under
 /// all options, the dump of this file is the text of that dataset.

@@ -11,20 +11,18 @@ use devices::{
 use ncdump::{dump, run_with};
 use std::alloc::{AllocError, Global};
 use std::io;
-use std::io::{ErrorKind, Write};
+use std::io::Write;
 
-/// A writer that takes everything, and counts its writes and its flushes, which fail if `holds_back`.
+/// A writer that takes everything, and counts its writes and its flushes.
 #[derive(Drop)]
 struct Counting {
-    holds_back: bool,
     writes: u64,
     flushes: u64,
 }
 
 /// A writer that hasn't been called.
-fn uncalled(holds_back: bool) -> Counting {
+fn uncalled() -> Counting {
     Counting {
-        holds_back,
         writes: 0,
         flushes: 0,
     }
@@ -38,9 +36,6 @@ impl Write for Counting {
 
     fn flush(&mut self) -> io::Result<()> {
         self.flushes = self.flushes.saturating_add(1);
-        if self.holds_back {
-            return Err(ErrorKind::StorageFull.into());
-        }
         Ok(())
     }
 }
@@ -135,7 +130,7 @@ fn dumps_of_long_files(rt: HostRuntime) -> Result<(), AllocError> {
         let file = long_file(rt.alloc(), long)?;
         let options = options_of(rt.alloc(), &WHOLE)?;
         let mut source = DripSource::new(file.as_slice(), COUNT, FailWhen::Read(long.reads));
-        let mut writer = uncalled(false);
+        let mut writer = uncalled();
         let mut sink = IoSink::new(&mut writer);
         let answer = dump(rt.alloc(), &mut source, &options, &mut [0; 4096], &mut sink);
         assert!(rt; answer.is_ok(), "{} reads", long.reads);
@@ -209,7 +204,7 @@ fn run_opens_its_file_once_and_reads_it_in_few_calls(rt: HostRuntime) -> Result<
         closings: 0,
         reads: 0,
     };
-    let mut writer = uncalled(false);
+    let mut writer = uncalled();
     let mut out = IoSink::new(&mut writer);
     let mut err = SliceSink::new(&mut [], 1);
     let words = ["ncdump", "t.nc"];
@@ -219,25 +214,25 @@ fn run_opens_its_file_once_and_reads_it_in_few_calls(rt: HostRuntime) -> Result<
     Ok(())
 }
 
-/// Standard output is flushed once, also after a failure. Its own failure has a line only if nothing else has.
+/// A run flushes no standard stream, after success or failure: its caller does.
 #[test]
-fn failing_flush_of_standard_output(rt: HostRuntime) {
-    const ROWS: &[(&str, &[u8])] = &[
-        ("t.nc", b"ncdump: write failed\n"),
-        ("u.nc", b"ncdump: u.nc: cannot open\n"),
+fn run_leaves_the_flush_to_its_caller(rt: HostRuntime) {
+    const ROWS: &[(&str, u8, &[u8])] = &[
+        ("t.nc", 0, b""),
+        ("u.nc", 1, b"ncdump: u.nc: cannot open\n"),
     ];
-    for (path, line) in ROWS {
+    for (path, ends_with, line) in ROWS {
         let files = [MemFile {
             path: "t.nc",
             bytes: test_files::ONE_VARIABLE,
         }];
-        let mut writer = uncalled(true);
+        let mut writer = uncalled();
         let mut out = IoSink::new(&mut writer);
         let mut space = [0; 32];
         let mut err = SliceSink::new(&mut space, 5);
         let mut opener = MemFiles::new(&files);
         let words = ["ncdump", *path];
         let status = run_with(&mut opener, rt.alloc(), &words, &mut out, &mut err);
-        assert!(rt; status == 1 && err.taken() == *line && writer.flushes == 1);
+        assert!(rt; status == *ends_with && err.taken() == *line && writer.flushes == 0);
     }
 }

@@ -59,7 +59,7 @@ fn faults_have_words(rt: HostRuntime) -> Result<(), AllocError> {
     assert!(rt; has_words(alloc, GenFault::Cdl(lacking), "out of memory")?);
     assert!(rt; has_words(alloc, GenFault::OffsetTooLarge, "offset too large")?);
     assert!(rt; has_words(alloc, GenFault::WriteFailed, "write failed")?);
-    let found = format!(in alloc; "{}, {}", TextFault::ReadFailed, TextFault::TooLong)?;
+    let found = format!(in alloc; "{}, {}", TextFault::ReadFailed, TextFault::CdlTooLong)?;
     assert!(rt; found.as_str() == "read failed, CDL text too long");
     Ok(())
 }

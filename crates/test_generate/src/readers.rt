@@ -4,7 +4,7 @@ ghost use Rattle.std.specs.Prelude.{None, false};
 ghost use Rattle.devices.specs.code.PathOpens.{HasBack};
 ghost use Rattle.test_generate.specs.code.TextDevices.{view_of_watched};
 
-use devices::{CountedRead, OpenFailed, TextOpener};
+use devices::{CountedRead, OpenCounts, OpenFailed, TextOpener};
 use std::io;
 use std::io::{ErrorKind, Read};
 
@@ -54,9 +54,8 @@ impl Read for FailingReader<'_> {
 pub struct WatchedTexts<'a> {
     bytes: &'a [u8],
     fail: u64,
-    opens: u128,
+    counts: OpenCounts,
     closings: u128,
-    failures: u128,
 }
 
 impl<'a> WatchedTexts<'a> {
@@ -65,15 +64,14 @@ impl<'a> WatchedTexts<'a> {
         WatchedTexts {
             bytes,
             fail,
-            opens: 0,
+            counts: OpenCounts::new(),
             closings: 0,
-            failures: 0,
         }
     }
 
     /// How often a text was opened, and how often one was given back.
     pub fn counts(&self) -> (u128, u128) {
-        (self.opens, self.closings)
+        (self.counts.opens(), self.closings)
     }
 }
 
@@ -87,14 +85,15 @@ impl<'a> TextOpener for WatchedTexts<'a> {
     ghost view = { view_of_watched };
 
     fn open_text(&mut self, _path: &str) -> Result<CountedRead<FailingReader<'a>>, OpenFailed> {
-        self.opens = self.opens.saturating_add(1);
-        Ok(CountedRead::new(FailingReader::new(self.bytes, 7, self.fail)))
+        let opened = Ok(CountedRead::new(FailingReader::new(self.bytes, 7, self.fail)));
+        self.counts.add_open(&opened);
+        opened
     }
 
     fn close_text(&mut self, text: CountedRead<FailingReader<'a>>)
         ensures { HasBack (view_of_watched self.old) (view_of_watched self.new) text.entry.failures }
     {
         self.closings = self.closings.saturating_add(1);
-        self.failures = self.failures.saturating_add(text.failures());
+        self.counts.add_failures(text.failures());
     }
 }

@@ -26,12 +26,12 @@ fn gives(
 fn bytes_up_to_the_limit_and_past_it(rt: HostRuntime) -> Result<(), AllocError> {
     static ROWS: &[(&[u8], (usize, u64), u32, Result<(), TextFault>)] = &[
         (b"0123456789", (20, NEVER), 10, Ok(())),
-        (b"0123456789a", (20, NEVER), 10, Err(TextFault::TooLong)),
+        (b"0123456789a", (20, NEVER), 10, Err(TextFault::CdlTooLong)),
         (b"0123456789", (20, 0), 10, Err(TextFault::ReadFailed)),
         (b"", (1, NEVER), 0, Ok(())),
-        (b"a", (1, NEVER), 0, Err(TextFault::TooLong)),
+        (b"a", (1, NEVER), 0, Err(TextFault::CdlTooLong)),
         // one byte too many is the last that is read
-        (b"0123456789abc", (1, 11), 10, Err(TextFault::TooLong)),
+        (b"0123456789abc", (1, 11), 10, Err(TextFault::CdlTooLong)),
     ];
     for (bytes, reader, max, want) in ROWS {
         assert!(rt;

@@ -1,7 +1,7 @@
 //! What the clauses don't say: that the definitions they cite are those of the format.
 
 use crate::header_rows::{NamedValues, var_of};
-use nc_base::{NcType, Sequence, Version, fill_of, is_valid_name, stem};
+use nc_base::{NcType, Sequence, Version, fill_of, check_name, stem};
 use std::test::Fail;
 
 /// The types in the order of `NcType::ALL`, each with the size, the code and the default fill value that `netcdf.h` gives it.
@@ -89,7 +89,7 @@ fn names_and_stems_keep_their_rules(rt: HostRuntime) {
         ("", ""),
     ];
     for (name, is_valid) in NAMES {
-        assert!(rt; is_valid_name(*name) == *is_valid, "{name:?}");
+        assert!(rt; check_name(*name) == *is_valid, "{name:?}");
     }
     for (path, name) in PATHS {
         assert!(rt; stem(*path) == *name, "{path:?}");

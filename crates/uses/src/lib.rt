@@ -5,4 +5,5 @@
 pub mod files;
 pub mod numbers;
 pub mod programs;
+pub mod surface;
 pub mod texts;

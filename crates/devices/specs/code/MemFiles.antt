@@ -1,7 +1,6 @@
 -- For contracts. The bytes that a path names among files in memory.
 use Rattle.std.specs.Prelude.{ℕ, Bool, List, Option, option_map, find}
 use Rattle.std.specs.Str.{bytes_eq}
-use Rattle.devices.specs.Openers.{OpenerView}
 use Rattle.devices.specs.declared.{testing.mem_files.MemFiles.MemFiles, testing.mem_files.MemFile.MemFile}
 
 -- the file has this path
@@ -19,7 +18,3 @@ bytes_named files path = option_map (λ (file : MemFile). file.bytes.now) (file_
 -- the files of the list
 abbrev pub files_of : MemFiles → List MemFile
 files_of listed = listed.files.now
-
--- the opener as the contracts of all openers see it
-abbrev pub view_of : MemFiles → OpenerView
-view_of listed = record { opens = listed.opens; failures = listed.failures }

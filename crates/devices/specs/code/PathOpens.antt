@@ -4,21 +4,28 @@ use Rattle.std.specs.Prelude.{Bool, ℕ, ◌≡◌, ◌+◌, ◌-◌, ◌^◌, m
 use Rattle.devices.specs.Sources.{SourceView}
 use Rattle.devices.specs.Readers.{view_of}
 use Rattle.devices.specs.Failures.{one_more}
-use Rattle.devices.specs.Openers.{OpenerView}
+use Rattle.devices.specs.Openers.{OpenerView, Refusals, refuse}
 use Rattle.devices.specs.declared.{fault.OpenFailed.OpenFailed, fault.OpenFailed.TheVariants.NotFound, reader.CountedRead.CountedRead}
 
 -- it was asked to open no path yet
 abbrev pub unopened : OpenerView
-unopened = record { opens = 0; failures = 0 }
+unopened = record { opens = 0; refusals = record { count = 0; last = None }; failures = 0 }
 
--- it was asked to open a path once more
-pub record OpensOnce (old new : OpenerView) : Type 0 where
+-- the paths that it could not open, after one more attempt with this result
+abbrev pub refusals_after : {Device : Type 0} → Refusals → Result Device OpenFailed → Refusals
+refusals_after r (Ok device) = r
+refusals_after r (Err why) = refuse r why
+
+-- it was asked to open a path once more, with this result
+pub record OpensOnce {Device : Type 0} (old new : OpenerView) (result : Result Device OpenFailed) : Type 0 where
   pub opens : new.opens ≡ one_more old.opens
+  pub refusals : new.refusals ≡ refusals_after old.refusals result
   pub failures : new.failures ≡ old.failures
 
 -- it took back a source that has failed this often: its own count stops at 2^128 - 1, and stays where the source hasn't failed
 pub record HasBack (old new : OpenerView) (failures : ℕ) : Type 0 where
   pub opens : new.opens ≡ old.opens
+  pub refusals : new.refusals ≡ old.refusals
   pub unfailed : failures ≡ 0 → new.failures ≡ old.failures
   pub failed : new.failures ≡ min (old.failures + failures) (2 ^ 128 - 1)
 

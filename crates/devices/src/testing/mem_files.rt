@@ -1,10 +1,11 @@
 //! Files in memory.
 
 ghost use Rattle.std.specs.Prelude.{◌≡◌, option_map, true};
-ghost use Rattle.devices.specs.code.MemFiles.{bytes_named, file_named, files_of, is_at, view_of};
+ghost use Rattle.devices.specs.code.MemFiles.{bytes_named, file_named, files_of, is_at};
+ghost use Rattle.devices.specs.code.OpenCounts.{view_of};
 ghost use Rattle.devices.specs.code.PathOpens.{HasBack, unopened};
 
-use crate::{CountedRead, MemSource, OpenFailed, Opener, TextOpener};
+use crate::{CountedRead, MemSource, OpenCounts, OpenFailed, Opener, TextOpener};
 use std::io::Read;
 
 /// A file in memory: a path and its bytes.
@@ -21,20 +22,18 @@ pub struct MemFile<'a> {
 #[derive(Drop)]
 pub struct MemFiles<'a> {
     files: &'a [MemFile<'a>],
-    opens: u128,
-    failures: u128,
+    counts: OpenCounts,
 }
 
 impl<'a> MemFiles<'a> {
     /// Creates `MemFiles` for these files. None of them has been opened.
     pub fn new(files: &'a [MemFile<'a>]) -> MemFiles<'a>
         ensures files { files_of result ≡ files.now }
-        ensures view { view_of result ≡ unopened }
+        ensures view { view_of result.counts ≡ unopened }
     {
         MemFiles {
             files,
-            opens: 0,
-            failures: 0,
+            counts: OpenCounts::new(),
         }
     }
 }
@@ -44,19 +43,19 @@ impl<'a> Opener for MemFiles<'a> {
 
     ghost named = { λ listed path. bytes_named (files_of listed) path };
 
-    ghost view = { view_of };
+    ghost view = { λ listed. view_of listed.counts };
 
     /// Opens the first file at the path as a source of its bytes, which aren't copied. Errs with `NotFound` if there is none. The attempt is
     /// counted in any case.
     fn open(&mut self, path: &str) -> Result<MemSource<'a>, OpenFailed> {
-        self.opens = self.opens.saturating_add(1);
-        let bytes = bytes_at(self.files, path).ok_or(OpenFailed::NotFound)?;
-        Ok(MemSource::new(bytes))
+        let opened = bytes_at(self.files, path).ok_or(OpenFailed::NotFound);
+        self.counts.add_open(&opened);
+        Ok(MemSource::new(opened?))
     }
 
     /// Adds the failures of the source to its own, up to `u128::MAX`, and drops the source.
     fn close(&mut self, source: MemSource<'a>) {
-        self.failures = self.failures.saturating_add(source.failures());
+        self.counts.add_failures(source.failures());
     }
 }
 
@@ -67,21 +66,21 @@ impl<'a> TextOpener for MemFiles<'a> {
 
     ghost named = { λ listed path. bytes_named (files_of listed) path };
 
-    ghost view = { view_of };
+    ghost view = { λ listed. view_of listed.counts };
 
     /// Opens the first file at the path as a text, and returns a reader of its bytes, which aren't copied. Errs with `NotFound` if there is
     /// none. The attempt is counted in any case.
     fn open_text(&mut self, path: &str) -> Result<CountedRead<&'a [u8]>, OpenFailed> {
-        self.opens = self.opens.saturating_add(1);
-        let bytes = bytes_at(self.files, path).ok_or(OpenFailed::NotFound)?;
-        Ok(CountedRead::new(bytes))
+        let opened = bytes_at(self.files, path).ok_or(OpenFailed::NotFound);
+        self.counts.add_open(&opened);
+        Ok(CountedRead::new(opened?))
     }
 
     /// Adds the failures of the text to its own, up to `u128::MAX`, and drops the text.
     fn close_text(&mut self, text: CountedRead<&'a [u8]>)
-        ensures { HasBack (view_of self.old) (view_of self.new) text.entry.failures }
+        ensures { HasBack (view_of self.old.counts) (view_of self.new.counts) text.entry.failures }
     {
-        self.failures = self.failures.saturating_add(text.failures());
+        self.counts.add_failures(text.failures());
     }
 }
 

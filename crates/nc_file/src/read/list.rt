@@ -8,7 +8,7 @@ use crate::head_fault::HeadFault;
 use crate::tag::{NC_DOUBLE, NC_FLOAT};
 use crate::window::Window;
 use devices::Source;
-use nc_base::{FormatFault, NcType, Sequence, Version, is_valid_name, padding_len};
+use nc_base::{FormatFault, NcType, Sequence, Version, check_name, padding_len};
 use std::alloc::Global;
 
 impl<S: Source> Window<'_, S> {
@@ -24,7 +24,7 @@ impl<S: Source> Window<'_, S> {
     {
         let n = self.count(version)?;
         let name = self.bytes(alloc, n as u128)?;
-        if !is_valid_name(name.as_slice()) {
+        if !check_name(name.as_slice()) {
             return Err(HeadFault::Format(FormatFault::BadName));
         }
         self.skip(padding_len(n as u128))?;

@@ -6,7 +6,7 @@ use Rattle.devices.specs.Failures.{HasFailed}
 use Rattle.devices.specs.Readers.{ReaderView, view_of}
 use Rattle.devices.specs.declared.reader.CountedRead.{CountedRead}
 use Rattle.ncgen.specs.declared.fault.TextFault.{TextFault}
-use Rattle.ncgen.specs.declared.fault.TextFault.TheVariants.{OutOfMemory, ReadFailed, TooLong}
+use Rattle.ncgen.specs.declared.fault.TextFault.TheVariants.{OutOfMemory, ReadFailed, CdlTooLong}
 
 -- all that the reader had still to hand over is this text
 pub record IsRead (max : ℕ) (old new : ReaderView) (text : List ℕ) : Type 0 where
@@ -25,7 +25,7 @@ pub record IsTooLong (max : ℕ) (old new : ReaderView) : Type 0 where
 -- nothing of the text.
 abbrev pub ReadsText : ℕ → ReaderView → ReaderView → Result (Vec ℕ) TextFault → Type 0
 ReadsText max old new (Ok text) = IsRead max old new text.items
-ReadsText max old new (Err TooLong) = IsTooLong max old new
+ReadsText max old new (Err CdlTooLong) = IsTooLong max old new
 ReadsText max old new (Err ReadFailed) = HasFailed old.failures new.failures
 ReadsText max old new (Err OutOfMemory) = new.failures ≡ old.failures
 
@@ -54,4 +54,4 @@ ReadsPart max old new before after (Ok true) = HasGrown old new before after × 
 ReadsPart max old new before after (Ok false) = HasGrown old new before after × (after ≡ before) × IsAtEnd new.remaining × (new.reads ≤ old.reads + 1)
 ReadsPart max old new before after (Err ReadFailed) = HasFailed old.failures new.failures × (new.handed ≡ old.handed) × (new.reads ≤ old.reads + 1)
 ReadsPart max old new before after (Err OutOfMemory) = (new.failures ≡ old.failures) × (new.handed + length before ≤ old.handed + max + 1) × (new.reads ≤ old.reads + 1)
-ReadsPart max old new before after (Err TooLong) = ⊥
+ReadsPart max old new before after (Err CdlTooLong) = ⊥
