@@ -211,7 +211,7 @@ static VALUES: [DumpRow<'static>; 11] = [
 ];
 
 /// Dumps of files that are changed where that is no fault, or the fault of a value, and of a source that fails.
-static CHANGED: [DumpRow<'static>; 8] = [
+static CHANGED: [DumpRow<'static>; 11] = [
     DumpRow {
         about: "padding that is not 0",
         change: (21, b"\xff"),
@@ -256,6 +256,26 @@ static CHANGED: [DumpRow<'static>; 8] = [
         bytes: test_files::ONE_VARIABLE_CDF2,
         change: (76, b"\x7f\xff\xff\xff\xff\xff\xff\xff"),
         answer: Err(DumpFault::DataTruncated { var: 0, value: 0 }),
+        text: b"",
+        ..ONE_VARIABLE
+    },
+    DumpRow {
+        about: "two record dimensions",
+        bytes: test_files::TWO_RECORD_DIMS,
+        answer: Err(DumpFault::Format(FormatFault::TwoRecordDims)),
+        ..WHOLE
+    },
+    DumpRow {
+        about: "a slab past its limit",
+        bytes: test_files::LARGE_SLAB,
+        answer: Err(DumpFault::Format(FormatFault::TooLarge)),
+        ..WHOLE
+    },
+    DumpRow {
+        about: "an offset with its top bit set",
+        change: (76, b"\x80"),
+        answer: Err(DumpFault::Format(FormatFault::BadOffset)),
+        head: b"",
         text: b"",
         ..ONE_VARIABLE
     },

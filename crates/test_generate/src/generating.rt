@@ -15,6 +15,18 @@ pub fn file_of(rt: &impl Abort, alloc: Global, text: &[u8], version: Version) ->
     sink
 }
 
+/// The options of a dump of everything with the name `t`, in lines of this width.
+pub fn whole(alloc: Global, width: usize) -> Result<DumpOptions, AllocError> {
+    Ok(DumpOptions {
+        file: String::new(alloc),
+        name: Sequence::from_vec(Vec::from_slice(alloc, b"t")?),
+        head_only: false,
+        coords: false,
+        chosen: None,
+        width,
+    })
+}
+
 /// The dump of everything in the file with the name `t`, in lines of this width.
 pub fn dump_of(
     rt: &impl Abort,
@@ -22,14 +34,7 @@ pub fn dump_of(
     file: &[u8],
     width: usize,
 ) -> Result<MemSink, AllocError> {
-    let options = DumpOptions {
-        file: String::new(alloc),
-        name: Sequence::from_vec(Vec::from_slice(alloc, b"t")?),
-        head_only: false,
-        coords: false,
-        chosen: None,
-        width,
-    };
+    let options = whole(alloc, width)?;
     let mut source = MemSource::new(file);
     let mut sink = MemSink::new(alloc);
     let answer = dump(alloc, &mut source, &options, &mut [0; 16], &mut sink);

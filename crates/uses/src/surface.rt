@@ -1,7 +1,7 @@
-//! The calls and types that programs may count on, each named by its public path with its types. A call that is lost, or that takes or
-//! returns something else, doesn't compile here. `docs/DECISIONS.md` says why some have other types than their short description has.
+//! The calls and types that programs may count on, each named by its public path with its types: one that is lost or changed doesn't
+//! compile here. `docs/DECISIONS.md` says which of them have other types than they were specified with, and why.
 //!
-//! A function is named as a pointer of its type. One that lends out part of what it is given can't be: it is called.
+//! A function is named as a pointer of its type. One that lends out part of what it is given can't be, so it is called.
 
 ghost use Rattle.std.specs.Prelude.{◌≡◌, ◌≤◌, ◌<◌, length};
 ghost use Rattle.nc_base.specs.Headers.{IsSound};
