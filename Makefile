@@ -75,11 +75,11 @@ test-proofs:
 test-definitions:
 	nice -n 19 tests/definitions.py
 
-# The tests that have to fail under a wrong body, each under its own. They need no proof.
+# The tests that wrong bodies name, each of which has to fail under its own. They need no proof.
 test-named:
 	tests/wrong_bodies.py --tests
 
-# The other wrong bodies, which the prover has to refuse.
+# All wrong bodies: the prover has to refuse those that name no test, and those that named_bodies.txt says.
 test-bodies:
 	tests/wrong_bodies.py
 
