@@ -1,13 +1,13 @@
 //! Runs of the program on a file in memory: what the words ask for, and what is answered.
 
-use devices::{MemFile, MemFiles, SliceSink};
+use devices::{MemFile, MemFiles, OpenFailed, SliceSink};
 use ncdump::{DumpOptions, command, options_of, run_with};
 use std::alloc::Global;
 use std::process::Abort;
 use std::test::Fail;
 use test_files::{
-    COORDINATES, LARGE_SLAB, LONG_LINE, ONE_VARIABLE, SMALLEST, TWO_RECORD_DIMS, UNSIGNED_FILLS,
-    patched, words_of,
+    COORDINATES, LARGE_SLAB, LONG_LINE, ONE_VARIABLE, Refusing, SMALLEST, TWO_RECORD_DIMS,
+    UNSIGNED_FILLS, patched, words_of,
 };
 
 /// A run of the program on these words, the first one its name, with a space between two. The only file is `t.nc`, which has these bytes.
@@ -284,6 +284,32 @@ fn expect_refusal<'a>(
 fn cut_file_has_its_line(rt: HostRuntime) -> Result<(), Fail> {
     let bytes = ONE_VARIABLE.get(..83).ok_or("too few bytes")?;
     expect_run(&rt, rt.alloc(), &Run { bytes, ..TRUNCATED })
+}
+
+/// A file that can't be opened has its line, whatever the reason, and the opener is asked for it once.
+#[test]
+fn file_that_is_refused_has_its_line(rt: HostRuntime) {
+    for why in [
+        OpenFailed::NotFound,
+        OpenFailed::PermissionDenied,
+        OpenFailed::NotRegular,
+        OpenFailed::Other,
+    ] {
+        let (mut text, mut line) = ([0; 16], [0; 64]);
+        let mut out = SliceSink::new(&mut text, 7);
+        let mut err = SliceSink::new(&mut line, 5);
+        let mut files = Refusing::new(why);
+        let words = ["ncdump", "t.nc"];
+        let status = run_with(&mut files, rt.alloc(), &words, &mut out, &mut err);
+        assert!(rt;
+            status == 1 && out.taken().is_empty() && files.opens() == 1,
+            "{why:?}"
+        );
+        assert!(rt;
+            is_same(err.taken(), b"ncdump: t.nc: cannot open\n"),
+            "{why:?}"
+        );
+    }
 }
 
 /// With ample memory no command line is answered with out of memory, however many words or names of variables it has.

@@ -10,7 +10,7 @@ pub struct CutSource<'a> {
     bytes: &'a [u8],
     len: u64,
     handed: u128,
-    failures: u128,
+    pub(crate) failures: u128,
 }
 
 /// The first `len` bytes of the file. The source promises as many as the whole file has.

@@ -1,4 +1,4 @@
-//! What the crates of tests share: files, byte by byte, and a source that is cut. Each file stands here once.
+//! What the crates of tests share: files, byte by byte, a source that is cut, and paths that can't be opened. Each file stands here once.
 #![tactic(auto)]
 
 mod characters;
@@ -6,6 +6,7 @@ mod cut_source;
 mod headers;
 mod made;
 mod records;
+mod refusing;
 mod values;
 mod words;
 
@@ -24,6 +25,7 @@ pub use records::{
     LONGER_RECORDS, NAMES_AND_STRINGS, PADDED_RECORDS, RECORD_BYTES, RECORDS_OFF_BOUNDARY,
     THREE_PADDED_RECORDS, THREE_VARIABLES, UNSIGNED_RECORDS,
 };
+pub use refusing::Refusing;
 pub use values::{
     COORDINATES, FILL_OF_BYTES, FILLED_SHORTS, FORTY_SHORTS, LONG_LINE, LOW_BYTE, ONE_VARIABLE,
     ONE_VARIABLE_CDF2, ONE_VARIABLE_CDF5, SHORT_LINE, UNSIGNED_FILLS,

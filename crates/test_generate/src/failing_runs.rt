@@ -3,11 +3,12 @@
 use crate::full_disks::FullDisk;
 use crate::readers::{FailingReader, NEVER, WatchedTexts};
 use crate::rows::SHORTS;
-use devices::{CountedRead, SliceSink};
+use devices::{CountedRead, OpenFailed, SliceSink};
 use ncgen::run_with;
 use std::alloc::Global;
 use std::process::Abort;
 use std::test::*;
+use test_files::Refusing;
 
 /// A run, the devices that it is given, and how it ends.
 #[derive(Clone, Copy)]
@@ -62,6 +63,37 @@ fn ends(rt: &impl Abort, alloc: Global, run: &Run) {
 /// Returns true if these are the same bytes.
 fn is_same(bytes: &[u8], others: &[u8]) -> bool {
     bytes == others
+}
+
+/// A text that can't be opened has its line, whatever the reason, and no output is created.
+#[test]
+fn text_that_is_refused_has_its_line(rt: HostRuntime) {
+    for why in [
+        OpenFailed::NotFound,
+        OpenFailed::PermissionDenied,
+        OpenFailed::NotRegular,
+        OpenFailed::Other,
+    ] {
+        let mut texts = Refusing::new(why);
+        let mut input = CountedRead::new(FailingReader::new(b"", 7, NEVER));
+        let mut disk = FullDisk::new(rt.alloc(), 0, 0);
+        let mut space = [0; 64];
+        let mut err = SliceSink::new(&mut space, 1);
+        let words = ["ncgen", "-b", "t.cdl"];
+        let status = run_with(
+            &mut texts,
+            &mut disk,
+            rt.alloc(),
+            &words,
+            &mut input,
+            &mut err,
+        );
+        assert!(rt; status == 1 && texts.opens() == 1, "{why:?}");
+        assert!(rt;
+            is_same(err.taken(), b"ncgen: t.cdl: cannot open\n"),
+            "{why:?}"
+        );
+    }
 }
 
 #[test]

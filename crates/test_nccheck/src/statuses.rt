@@ -1,13 +1,13 @@
 //! Runs over several files, with options and trouble.
 
 use crate::files::CLEAN;
-use devices::{CountedRead, MemFile, MemFiles, SliceSink};
+use devices::{CountedRead, MemFile, MemFiles, OpenFailed, SliceSink};
 use nccheck::run_with;
 use std::alloc::{AllocError, Global};
 use std::io;
 use std::io::{ErrorKind, Read};
 use std::process::Abort;
-use test_files::{COORDINATES, TWO_RECORDS, patched, words_of};
+use test_files::{COORDINATES, Refusing, TWO_RECORDS, patched, words_of};
 
 /// How the program is used.
 const USAGE: &[u8] = b"usage: nccheck [-q] [-s] [-0] [-l level] [-i kinds] [file ...]\n";
@@ -313,4 +313,45 @@ fn runs_end_with_their_status(rt: HostRuntime) -> Result<(), AllocError> {
         },
     ];
     all_end_so(&rt, rt.alloc(), &files)
+}
+
+/// A file that can't be opened has a line with the reason that its opener gave.
+#[test]
+fn file_that_is_refused_has_its_reason(rt: HostRuntime) {
+    const ROWS: &[(OpenFailed, &[u8])] = &[
+        (
+            OpenFailed::NotFound,
+            b"nccheck: f: cannot open: no such file\n",
+        ),
+        (
+            OpenFailed::PermissionDenied,
+            b"nccheck: f: cannot open: permission denied\n",
+        ),
+        (
+            OpenFailed::NotRegular,
+            b"nccheck: f: cannot open: not a regular file\n",
+        ),
+        (OpenFailed::Other, b"nccheck: f: cannot open\n"),
+    ];
+    for (why, line) in ROWS {
+        let (mut line_space, mut trouble_space) = ([0; 16], [0; 64]);
+        let mut out = SliceSink::new(&mut line_space, 7);
+        let mut err = SliceSink::new(&mut trouble_space, 5);
+        let mut files = Refusing::new(*why);
+        let mut input = CountedRead::new(UNREAD);
+        let words = ["nccheck", "f"];
+        let status = run_with(
+            &mut files,
+            rt.alloc(),
+            &words,
+            &mut input,
+            &mut out,
+            &mut err,
+        );
+        assert!(rt;
+            status == 2 && out.taken().is_empty() && files.opens() == 1,
+            "{why:?}"
+        );
+        assert!(rt; err.taken() == *line, "{why:?}");
+    }
 }
