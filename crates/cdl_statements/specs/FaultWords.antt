@@ -1,7 +1,7 @@
 -- Definition. The words for the fault of a CDL text.
-use Rattle.std.specs.Prelude.{codes}
-use Rattle.nc_base.specs.Bytes.{Bytes}
-use Rattle.cdl_statements.specs.declared.fault.CdlKind.{CdlKind}
+use Rattle.std.specs.Prelude.{ℕ, [], ◌∷◌, codes, decimal}
+use Rattle.nc_base.specs.Bytes.{Bytes, concat_parts}
+use Rattle.cdl_statements.specs.declared.{fault.CdlFault.CdlFault, fault.CdlKind.CdlKind}
 use Rattle.cdl_statements.specs.declared.fault.CdlKind.TheVariants.{OutOfMemory, BadToken, BadNumber, Syntax, BadName, DuplicateName, UnknownDimension, UnknownVariable, FloatingType, UnknownType, ZeroDimension, TwoRecordDims, BadShape, MixedConstants, NumberRange, WrongKind, TooManyValues, StringTooLong, DuplicateData, TooLarge}
 
 unfoldable pub kind_words : CdlKind → Bytes
@@ -25,3 +25,11 @@ kind_words TooManyValues = codes "too many values"
 kind_words StringTooLong = codes "string too long"
 kind_words DuplicateData = codes "duplicate data"
 kind_words TooLarge = codes "too large"
+
+-- Out of memory belongs to no line.
+unfoldable pub line_prefix : CdlKind → ℕ → Bytes
+line_prefix OutOfMemory line = []
+line_prefix kind line = concat_parts (codes "line " ∷ decimal line ∷ codes ": " ∷ [])
+
+unfoldable pub cdl_fault_text : CdlFault → Bytes
+cdl_fault_text fault = concat_parts (line_prefix fault.kind fault.line ∷ kind_words fault.kind ∷ [])

@@ -1,7 +1,7 @@
 //! The faults of a CDL text.
 
-ghost use Rattle.std.specs.Prelude.{◌≡◌};
-ghost use Rattle.cdl_statements.specs.FaultWords.{kind_words};
+ghost use Rattle.std.specs.Prelude.{◌≡◌, Some};
+ghost use Rattle.cdl_statements.specs.FaultWords.{cdl_fault_text, kind_words};
 
 use std::error::Error;
 use std::fmt;
@@ -92,6 +92,8 @@ impl CdlKind {
 }
 
 impl fmt::Display for CdlKind {
+    ghost output = { λ kind. Some (kind_words kind) };
+
     /// Writes the [`words`](CdlKind::words) for the kind of fault.
     fn fmt<W: fmt::Write>(&self, f: &mut fmt::Formatter<W>) -> fmt::Result {
         f.write_str(self.words())
@@ -101,7 +103,10 @@ impl fmt::Display for CdlKind {
 impl Error for CdlKind {}
 
 impl fmt::Display for CdlFault {
+    ghost output = { λ fault. Some (cdl_fault_text fault) };
+
     /// Writes `line N: ` and the words for the kind of fault. Of `OutOfMemory`, which belongs to no line, it writes the words alone.
+    #[tactic(auto, unfolding(nc_base::specs::Bytes::concat_parts, crate::specs::FaultWords::cdl_fault_text, crate::specs::FaultWords::line_prefix))]
     fn fmt<W: fmt::Write>(&self, f: &mut fmt::Formatter<W>) -> fmt::Result {
         match self.kind {
             CdlKind::OutOfMemory => self.kind.fmt(f),

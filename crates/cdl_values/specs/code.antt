@@ -8,3 +8,4 @@ pub mod Meant
 pub mod ValueRuns
 pub mod TokenValues
 pub mod Unescaping
+pub mod FaultTexts

@@ -1,6 +1,7 @@
 //! Why the calls that read a statement give up.
 
-ghost use Rattle.std.specs.Prelude.{◌≡◌};
+ghost use Rattle.std.specs.Prelude.{◌≡◌, Some};
+ghost use Rattle.cdl_values.specs.code.FaultTexts.{read_error_text};
 ghost use Rattle.cdl_values.specs.declared.read_error.ReadError.TheVariants.{Fault, OutOfMemory};
 
 use cdl_statements::CdlKind;
@@ -18,7 +19,10 @@ pub enum ReadError {
 }
 
 impl fmt::Display for ReadError {
+    ghost output = { λ error. Some (read_error_text error) };
+
     /// Writes `out of memory`, or the words for the fault's kind.
+    #[tactic(auto, unfolding(crate::specs::code::FaultTexts::read_error_text))]
     fn fmt<W: fmt::Write>(&self, f: &mut fmt::Formatter<W>) -> fmt::Result {
         match self {
             ReadError::OutOfMemory => f.write_str(CdlKind::OutOfMemory.words()),

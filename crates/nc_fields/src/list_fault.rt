@@ -1,6 +1,7 @@
 //! Why the fields of a header could not be listed.
 
-ghost use Rattle.std.specs.Prelude.{◌≡◌};
+ghost use Rattle.std.specs.Prelude.{◌≡◌, Some};
+ghost use Rattle.nc_fields.specs.code.FaultTexts.{list_fault_text};
 ghost use Rattle.nc_fields.specs.declared.list_fault.ListFault.TheVariants.{OutOfMemory};
 
 use std::alloc::AllocError;
@@ -26,7 +27,10 @@ impl From<AllocError> for ListFault {
 }
 
 impl fmt::Display for ListFault {
+    ghost output = { λ fault. Some (list_fault_text fault) };
+
     /// Writes the words for the fault: `out of memory` or `read failed`.
+    #[tactic(auto, unfolding(crate::specs::code::FaultTexts::list_fault_text))]
     fn fmt<W: fmt::Write>(&self, f: &mut fmt::Formatter<W>) -> fmt::Result {
         match self {
             ListFault::OutOfMemory => f.write_str("out of memory"),

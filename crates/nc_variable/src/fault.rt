@@ -1,6 +1,7 @@
 //! Why a variable could not be opened.
 
-ghost use Rattle.std.specs.Prelude.{◌≡◌};
+ghost use Rattle.std.specs.Prelude.{◌≡◌, Some};
+ghost use Rattle.nc_variable.specs.code.FaultTexts.{variable_fault_text};
 ghost use Rattle.nc_variable.specs.declared.fault.VariableFault.TheVariants.{Header};
 
 use nc_file::HeadFault;
@@ -17,7 +18,10 @@ pub enum VariableFault {
 }
 
 impl fmt::Display for VariableFault {
+    ghost output = { λ fault. Some (variable_fault_text fault) };
+
     /// Writes the words for the fault, such as `read failed`, `bad tag` or `no such variable`.
+    #[tactic(auto, unfolding(crate::specs::code::FaultTexts::variable_fault_text))]
     fn fmt<W: fmt::Write>(&self, f: &mut fmt::Formatter<W>) -> fmt::Result {
         match self {
             VariableFault::Header(fault) => fault.fmt(f),

@@ -7,3 +7,4 @@ pub mod Walked
 pub mod Filled
 pub mod DataPart
 pub mod RecordSlabs
+pub mod FaultTexts

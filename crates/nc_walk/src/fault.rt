@@ -1,6 +1,7 @@
 //! Why a walk stops.
 
-ghost use Rattle.std.specs.Prelude.{◌≡◌};
+ghost use Rattle.std.specs.Prelude.{◌≡◌, Some};
+ghost use Rattle.nc_walk.specs.code.FaultTexts.{walk_fault_text};
 ghost use Rattle.nc_walk.specs.declared.fault.WalkFault.TheVariants.{ReadFailed};
 
 use devices::SourceFailed;
@@ -18,7 +19,10 @@ pub enum WalkFault {
 }
 
 impl fmt::Display for WalkFault {
+    ghost output = { λ fault. Some (walk_fault_text fault) };
+
     /// Writes `read failed`, or `data truncated at value ` and the number of the value.
+    #[tactic(auto, unfolding(nc_base::specs::Bytes::concat_parts, crate::specs::code::FaultTexts::walk_fault_text))]
     fn fmt<W: fmt::Write>(&self, f: &mut fmt::Formatter<W>) -> fmt::Result {
         match self {
             WalkFault::ReadFailed => f.write_str("read failed"),

@@ -1,10 +1,8 @@
 -- Definition. The faults of a run, and the lines that tell them.
 use Rattle.std.specs.Global.{Global}
-use Rattle.std.specs.Prelude.{ℕ, [], ◌∷◌, Option, Some, None, String, codes, decimal, string_bytes}
+use Rattle.std.specs.Prelude.{[], ◌∷◌, Option, Some, None, String, codes, string_bytes}
 use Rattle.nc_base.specs.Bytes.{Bytes, concat_parts}
-use Rattle.cdl_statements.specs.declared.fault.CdlKind.{CdlKind}
-use Rattle.cdl_statements.specs.declared.fault.CdlKind.TheVariants as cdl
-use Rattle.cdl_statements.specs.FaultWords.{kind_words}
+use Rattle.cdl_statements.specs.FaultWords.{cdl_fault_text}
 use Rattle.cli_base.specs.declared.fault.OptFault.{OptFault}
 use Rattle.cli_base.specs.declared.fault.OptFault.TheVariants as opt
 use Rattle.ncgen.specs.declared.{fault.GenFault.GenFault, failure.InputFault.InputFault, failure.OutputFault.OutputFault, failure.Failure.Failure}
@@ -14,13 +12,8 @@ use Rattle.ncgen.specs.declared.failure.InputFault.TheVariants as input
 use Rattle.ncgen.specs.declared.failure.OutputFault.TheVariants as output
 use Rattle.ncgen.specs.declared.failure.Failure.TheVariants.{CommandLine, Input, Output}
 
--- Out of memory belongs to no line.
-unfoldable pub line_prefix : CdlKind → ℕ → Bytes
-line_prefix cdl.OutOfMemory line = []
-line_prefix kind line = concat_parts (codes "line " ∷ decimal line ∷ codes ": " ∷ [])
-
 unfoldable pub fault_text : GenFault → Bytes
-fault_text (Cdl fault) = concat_parts (line_prefix fault.kind fault.line ∷ kind_words fault.kind ∷ [])
+fault_text (Cdl fault) = cdl_fault_text fault
 fault_text OffsetTooLarge = codes "offset too large"
 fault_text WriteFailed = codes "write failed"
 

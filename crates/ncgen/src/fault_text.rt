@@ -1,9 +1,10 @@
 //! The line of each fault. A function that writes errs only if the sink failed, which has then taken some prefix of what is written.
 
-ghost use Rattle.std.specs.Prelude.{◌≡◌, codes};
+ghost use Rattle.std.specs.Prelude.{◌≡◌, Some, codes};
+ghost use Rattle.cdl_statements.specs.FaultWords.{line_prefix};
 ghost use Rattle.devices.specs.code.SinkWrites.{Wrote};
 ghost use Rattle.ncgen.specs.declared.fault.GenFault.TheVariants.{Cdl};
-ghost use Rattle.ncgen.specs.Faults.{fault_line, fault_text, input_words, line_of_failure, opt_fault_line, output_words, line_prefix, text_name};
+ghost use Rattle.ncgen.specs.Faults.{fault_line, fault_text, input_words, line_of_failure, opt_fault_line, output_words, text_name};
 
 use crate::failure::{Failure, InputFault, OutputFault};
 use crate::fault::{GenFault, TextFault};
@@ -129,7 +130,7 @@ fn put_message<W: Sink>(sink: &mut W, fault: &GenFault) -> Result<(), WriteFaile
 }
 
 /// Writes the message of a fault of a CDL text: `line N: ` (not for `OutOfMemory`) and the words for its kind. Errs if the sink fails.
-#[tactic(auto, using(devices::proofs::Writes::writes), unfolding(crate::specs::Faults::fault_text))]
+#[tactic(auto, using(devices::proofs::Writes::writes), unfolding(cdl_statements::specs::FaultWords::cdl_fault_text, crate::specs::Faults::fault_text))]
 fn put_cdl_fault<W: Sink>(sink: &mut W, fault: CdlFault) -> Result<(), WriteFailed>
     ensures { Wrote W.view sink.old sink.new (fault_text (Cdl fault)) result }
 {
@@ -138,7 +139,7 @@ fn put_cdl_fault<W: Sink>(sink: &mut W, fault: CdlFault) -> Result<(), WriteFail
 }
 
 /// Writes `line N: ` for a fault in the line `line`, or nothing for `OutOfMemory`, which belongs to no line. Errs if the sink fails.
-#[tactic(auto, using(devices::proofs::Writes::writes), unfolding(crate::specs::Faults::line_prefix))]
+#[tactic(auto, using(devices::proofs::Writes::writes), unfolding(cdl_statements::specs::FaultWords::line_prefix))]
 fn put_line_number<W: Sink>(sink: &mut W, kind: CdlKind, line: u64) -> Result<(), WriteFailed>
     ensures { Wrote W.view sink.old sink.new (line_prefix kind line) result }
 {
@@ -181,7 +182,10 @@ fn program_words() -> &'static [u8]
 }
 
 impl fmt::Display for GenFault {
+    ghost output = { λ fault. Some (fault_text fault) };
+
     /// Writes the message that [`fault_line`] has for the fault. Errs if `f` does.
+    #[tactic(auto, unfolding(crate::specs::Faults::fault_text))]
     fn fmt<W: fmt::Write>(&self, f: &mut fmt::Formatter<W>) -> fmt::Result {
         match self {
             GenFault::Cdl(fault) => fault.fmt(f),
@@ -194,6 +198,8 @@ impl fmt::Display for GenFault {
 impl Error for GenFault {}
 
 impl fmt::Display for TextFault {
+    ghost output = { λ fault. Some (input_words (InputFault.Text fault)) };
+
     /// Writes the message that the program has for the fault, such as `read failed`. Errs if `f` does.
     fn fmt<W: fmt::Write>(&self, f: &mut fmt::Formatter<W>) -> fmt::Result {
         f.write_str(input_words(*self))
