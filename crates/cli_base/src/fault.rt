@@ -1,10 +1,11 @@
 //! Why a command line could not be read.
 
-ghost use Rattle.std.specs.Prelude.{◌≡◌, ◌≢◌};
+ghost use Rattle.std.specs.Prelude.{◌≡◌, ◌≢◌, Some};
 ghost use Rattle.std.specs.IoError.{error_kind};
 ghost use Rattle.std.specs.declared.io.ErrorKind.TheVariants as io_kind;
 ghost use Rattle.clap.specs.Words.{kind_of};
 ghost use Rattle.clap.specs.declared.error.kind.ErrorKind.TheVariants as kind;
+ghost use Rattle.cli_base.specs.code.FaultTexts.{opt_fault_text};
 ghost use Rattle.cli_base.specs.declared.fault.OptFault.TheVariants as opt;
 
 use clap::error::ErrorKind;
@@ -22,7 +23,10 @@ pub enum OptFault {
 }
 
 impl fmt::Display for OptFault {
+    ghost output = { λ fault. Some (opt_fault_text fault) };
+
     /// Writes `out of memory`, or `bad command line`. The programs' fault lines have the usage line in place of the latter.
+    #[tactic(auto, unfolding(crate::specs::code::FaultTexts::opt_fault_text))]
     fn fmt<W: fmt::Write>(&self, f: &mut fmt::Formatter<W>) -> fmt::Result {
         match self {
             OptFault::OutOfMemory => f.write_str("out of memory"),

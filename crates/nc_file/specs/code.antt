@@ -2,3 +2,4 @@ pub mod Window
 pub mod SizedVars
 pub mod Answers
 pub mod Begins
+pub mod FaultTexts

@@ -1,6 +1,7 @@
 //! Why a header could not be read.
 
-ghost use Rattle.std.specs.Prelude.{◌≡◌};
+ghost use Rattle.std.specs.Prelude.{◌≡◌, Some};
+ghost use Rattle.nc_file.specs.code.FaultTexts.{head_fault_text};
 ghost use Rattle.nc_file.specs.declared.head_fault.HeadFault.TheVariants.{OutOfMemory, ReadFailed, Format};
 
 use devices::SourceFailed;
@@ -22,7 +23,10 @@ pub enum HeadFault {
 }
 
 impl fmt::Display for HeadFault {
+    ghost output = { λ fault. Some (head_fault_text fault) };
+
     /// Writes the words for the fault, such as `read failed` or `bad tag`.
+    #[tactic(auto, unfolding(crate::specs::code::FaultTexts::head_fault_text))]
     fn fmt<W: fmt::Write>(&self, f: &mut fmt::Formatter<W>) -> fmt::Result {
         match self {
             HeadFault::OutOfMemory => f.write_str("out of memory"),

@@ -1,6 +1,6 @@
 //! The line of each fault. A function that writes errs only if the sink failed, which has then taken some prefix of what is written.
 
-ghost use Rattle.std.specs.Prelude.{◌≡◌};
+ghost use Rattle.std.specs.Prelude.{◌≡◌, Some};
 ghost use Rattle.devices.specs.code.SinkWrites.{Wrote};
 ghost use Rattle.nc_base.specs.FaultWords.{format_text};
 ghost use Rattle.ncdump.specs.Faults.{fault_text, file_line, file_text, item_words, line_of_failure, opt_fault_line, truncated_words, usage_line};
@@ -166,7 +166,10 @@ fn truncated_words() -> &'static str
 }
 
 impl fmt::Display for DumpFault {
+    ghost output = { λ fault. Some (fault_text fault) };
+
     /// Writes the message that [`fault_line`] has for the fault. Errs if `f` does.
+    #[tactic(auto, unfolding(nc_base::specs::Bytes::concat_parts, crate::specs::Faults::fault_text))]
     fn fmt<W: fmt::Write>(&self, f: &mut fmt::Formatter<W>) -> fmt::Result {
         match self {
             DumpFault::OutOfMemory => f.write_str(OUT_OF_MEMORY),

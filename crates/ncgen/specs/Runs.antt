@@ -79,8 +79,8 @@ pub record EndsOverSystem (asked : Option Asked) (input : Use ReaderView) (err :
   pub texts : OpenerView
   pub outputs : CreatorView
   pub ends : Ends (record {
-      asked = asked;
-      inputs = record { texts = record { is_transparent = false; named = λ _. None; before = unopened; after = texts }; input = input };
-      outputs = record { is_transparent = false; before = uncreated; after = outputs };
-      err = err
-    }) status
+    asked = asked;
+    inputs = record { texts = record { is_transparent = false; named = λ _. None; before = unopened; after = texts }; input = input };
+    outputs = record { is_transparent = false; before = uncreated; after = outputs };
+    err = err;
+  }) status

@@ -1,6 +1,6 @@
 //! The begin of each variable.
 
-ghost use Rattle.std.specs.Prelude.{◌≡◌, ◌+◌, ◌*◌, ◌<◌, ◌≤◌, ◌^◌, All, Ok, Err, if◌then◌else◌, length, true};
+ghost use Rattle.std.specs.Prelude.{◌≡◌, ◌+◌, ◌*◌, ◌<◌, ◌≤◌, ◌^◌, All, Ok, Err, Some, codes, if◌then◌else◌, length, true};
 ghost use Rattle.std.specs.List.{list_all};
 ghost use Rattle.nc_base.specs.GeneratedFile.{fits, fixed_vars, with_begins};
 ghost use Rattle.nc_base.specs.Headers.{IsSound};
@@ -18,6 +18,8 @@ use std::fmt;
 pub struct OffsetTooLarge;
 
 impl fmt::Display for OffsetTooLarge {
+    ghost output = { λ _. Some (codes "offset too large") };
+
     /// Writes `offset too large`.
     fn fmt<W: fmt::Write>(&self, f: &mut fmt::Formatter<W>) -> fmt::Result {
         f.write_str("offset too large")
