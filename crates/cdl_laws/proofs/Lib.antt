@@ -20,6 +20,7 @@ pub mod Datasets
 pub mod Said
 pub mod Fine
 pub mod MeaningsAreGood
+pub mod WithinLimits
 pub mod Trimmed
 pub mod TextReadsBack
 pub mod TextTokens

@@ -6,6 +6,7 @@
 
 ghost use Rattle.nc_base.specs.declared.version.Version.{Version};
 ghost use Rattle.cdl_laws.specs.Goods.{MeaningsAreGood, MeaningsAreNearlySayable, NearlyIsSayable};
+ghost use Rattle.cdl_laws.specs.Limits.{LimitsMakeMeant, LimitsMakeSound};
 ghost use Rattle.cdl_laws.specs.PieceLaws.{PiecesAreStatements, MarksReadBack, DimensionsReadBack, DeclarationsReadBack, AttributesReadBack, GlobalAttributesReadBack, DataReadsBack};
 ghost use Rattle.cdl_laws.specs.RoundTrip.{DumpsTellDatasetsApart, TextReadsBack};
 ghost use Rattle.cdl_laws.specs.RowLaws.{RowsReadBack, EmptyRowsReadBack};
@@ -88,6 +89,21 @@ pub fn dumps_tell_datasets_apart()
 /// limits, and each begin is 0), and of the version that was asked for.
 pub fn meanings_are_good()
     ensures { MeaningsAreGood }
+{}
+
+/// States two laws, and does nothing. Where no statement of a text has a fault, only a limit keeps the text from meaning the dataset that it
+/// declares.
+///
+/// `sound`: if the version can count the records of this dataset and what each of its lists has (dimensions, attributes and variables, the
+/// dimensions and attributes of a variable, the bytes of a name, the values of an attribute), and each slab and the record keep this
+/// project's limits, then its header is sound. So lengths of dimensions, shapes, types and the values of attributes are never the reason
+/// why a header isn't.
+///
+/// `meant`: if the array of each variable keeps its limit, too, then the text means this dataset.
+#[tactic(auto, using(crate::proofs::WithinLimits::limits_make_sound, crate::proofs::WithinLimits::limits_make_meant))]
+pub fn only_limits_refuse()
+    ensures sound { LimitsMakeSound }
+    ensures meant { LimitsMakeMeant }
 {}
 
 /// States a law, and does nothing: if a text means a dataset, then this dataset is good. No two of its dimensions, of its variables, of its
