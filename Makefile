@@ -49,11 +49,14 @@ try:
 sources = test -e build.sh || \
 	{ echo 'This needs the sources and the Rattle kit: this folder is a release, which has the built programs in bin/.' >&2; exit 1; }
 
-# The merge gate, in parts that run side by side where none waits for another.
-test: $(if $(wildcard tests),test-proofs test-definitions test-named test-bodies test-programs test-scale,kit)
+# All proofs and tests, the built programs and the pages. A merge has to pass this and the next, side by side, each in parts that run side
+# by side where none waits for another.
+test: $(if $(wildcard tests),test-proofs test-programs test-scale,kit)
+# Whether contracts and laws say enough: wrong bodies and wrong definitions, which have to be refused.
+test-contracts: $(if $(wildcard tests),test-definitions test-named test-bodies,kit)
 test-bodies test-programs test-scale: test-proofs
 test-proofs test-definitions test-named: kit
-ifeq ($(MAKECMDGOALS),test)
+ifneq ($(filter test test-contracts,$(MAKECMDGOALS)),)
 MAKEFLAGS += --jobs=3
 endif
 
@@ -182,4 +185,4 @@ clean:
 	@$(sources)
 	rm -rf bin dist crates/*/out
 
-.PHONY: all try kit test test-proofs test-definitions test-named test-bodies test-programs test-scale install uninstall names dist check clean
+.PHONY: all try kit test test-contracts test-proofs test-definitions test-named test-bodies test-programs test-scale install uninstall names dist check clean
