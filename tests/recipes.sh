@@ -153,27 +153,32 @@ for name in ncdump ncgen; do
     verdict "version_in_$name" 0
 done
 
-# The recipe for git: changes of files are shown as changes of their text, also of a file that is cut short and of one with a floating type,
-# which can't be printed, and are shown by a sum of their bytes.
+# The recipe for git: changes of files are shown as changes of their text and of a sum of their bytes, also of a file that is cut short, of
+# one with a floating type, which can't be printed, and of two whose text stays: one of another kind, and one with bytes after its values.
 files_before() {
     cp "$samples/note.nc" .
     head -c 500 "$samples/stations.nc" >cut.nc
     { printf 'CDF\001' && zeros 12 && printf '\000\000\000\014\000\000\000\001\000\000\000\001a\000\000\000' &&
         printf '\000\000\000\005\000\000\000\001' && zeros 12; } >float.nc
+    cp "$samples/smallest.nc" kind.nc
+    cp "$samples/smallest.nc" longer.nc
     git add . && git -c user.name=test -c user.email=test@example.org commit -qm first
 }
 changes() {
     for file in note cut float; do
         cp "$samples/smallest.nc" $file.nc
     done
-    git --no-pager diff --no-color | grep -- '-28\|:note\|^-[0-9]'
+    printf '\002' | dd of=kind.nc bs=1 seek=3 conv=notrunc status=none
+    zeros 4 >>longer.nc
+    git --no-pager diff --no-color | grep -- '-28\|:note\|^-[0-9]\|^+[0-9].* 36'
 }
 if command -v git >/dev/null; then
     mkdir repository && cd repository && git init -q .
     recipe 'gitattributes'
     verdict setting_of_git 0
     files_before
-    stdout "-  -28, _\n-$(cksum <cut.nc)\n-$(cksum <float.nc)\n-\t\t:note = \"a\\\\n\",\n"
+    was=$(cksum <kind.nc)
+    stdout "-  -28, _\n-$(cksum <cut.nc)\n-$(cksum <float.nc)\n-$was\n-$was\n+$(cat longer.nc <(zeros 4) | cksum)\n-\t\t:note = \"a\\\\n\",\n-$(cksum <note.nc)\n"
     run changes
     verdict changes_in_git 0
     cd ..
