@@ -18,7 +18,7 @@ use crate::variables::Variables;
 use cdl_statements::{CdlKind, Cutter, Lexeme};
 use cdl_tokens::TokenKind;
 use cdl_values::{ReadError, name_of_word, read_name};
-use nc_base::{NcType, Version, is_record_dim, check_name};
+use nc_base::{NcType, Version, check_name, is_record_dim};
 use std::alloc::{AllocError, Global};
 
 /// A variable as far as its declaration is read.

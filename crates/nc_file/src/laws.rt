@@ -3,7 +3,7 @@
 ghost use Rattle.std.specs.Prelude.{ℕ, ◌≤◌, List, length};
 ghost use Rattle.nc_base.specs.FileLaws.{FilesHoldTheirDatasets, FilesHoldOneDataset, FilesAreDumpedAsTheirText, GeneratedFilesAreDumped};
 ghost use Rattle.nc_file.specs.OneOutcome.{HasOneOutcome};
-ghost use Rattle.nc_base.specs.GeneratedFile.{header_spelling};
+ghost use Rattle.nc_base.specs.Grammar.{header_spelling};
 ghost use Rattle.nc_base.specs.HeaderLaws.{WrittenHeadersReadBack};
 ghost use Rattle.nc_base.specs.code.Weight.{weight_of};
 ghost use Rattle.nc_base.specs.declared.header.Header.{Header};

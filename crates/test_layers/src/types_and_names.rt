@@ -1,7 +1,7 @@
 //! What the clauses don't say: that the definitions they cite are those of the format.
 
 use crate::header_rows::{NamedValues, var_of};
-use nc_base::{NcType, Sequence, Version, fill_of, check_name, stem};
+use nc_base::{NcType, Sequence, Version, check_name, fill_of, stem};
 use std::test::Fail;
 
 /// The types in the order of `NcType::ALL`, each with the size, the code and the default fill value that `netcdf.h` gives it.
