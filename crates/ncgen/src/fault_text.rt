@@ -4,6 +4,7 @@ ghost use Rattle.std.specs.Prelude.{◌≡◌, Some, codes};
 ghost use Rattle.cdl_statements.specs.FaultWords.{line_prefix};
 ghost use Rattle.devices.specs.code.SinkWrites.{Wrote};
 ghost use Rattle.ncgen.specs.declared.fault.GenFault.TheVariants.{Cdl};
+ghost use Rattle.ncgen.specs.declared.failure.InputFault.TheVariants.{Text};
 ghost use Rattle.ncgen.specs.Faults.{fault_line, fault_text, input_words, line_of_failure, opt_fault_line, output_words, text_name};
 
 use crate::failure::{Failure, InputFault, OutputFault};
@@ -198,7 +199,7 @@ impl fmt::Display for GenFault {
 impl Error for GenFault {}
 
 impl fmt::Display for TextFault {
-    ghost output = { λ fault. Some (input_words (InputFault.Text fault)) };
+    ghost output = { λ fault. Some (input_words (Text fault)) };
 
     /// Writes the message that the program has for the fault, such as `read failed`. Errs if `f` does.
     fn fmt<W: fmt::Write>(&self, f: &mut fmt::Formatter<W>) -> fmt::Result {
