@@ -61,5 +61,7 @@ fn faults_have_words(rt: HostRuntime) -> Result<(), AllocError> {
     assert!(rt; has_words(alloc, GenFault::WriteFailed, "write failed")?);
     let found = format!(in alloc; "{}, {}", TextFault::ReadFailed, TextFault::CdlTooLong)?;
     assert!(rt; found.as_str() == "read failed, CDL text too long");
+    let found = format!(in alloc; "{}, {}", TextFault::OutOfMemory, CdlKind::OutOfMemory)?;
+    assert!(rt; found.as_str() == "out of memory, out of memory");
     Ok(())
 }

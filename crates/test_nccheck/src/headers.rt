@@ -302,7 +302,8 @@ fn headers_that_end_early(rt: HostRuntime) -> Result<(), Fail> {
     Ok(())
 }
 
-/// A read in mid-header fails, and so does the check. The words of its faults stand in no contract.
+/// A read in mid-header fails, and so does the check. Its faults are displayed: the words stand in a contract, but it allows a call that
+/// errs.
 #[test]
 fn failing_read(rt: HostRuntime) -> Result<(), Fail> {
     let mut source = DripSource::new(ODD_HEADER, 1, FailWhen::Read(50));

@@ -1,7 +1,8 @@
 //! The statements and the tokens of a text.
 
-use cdl_statements::Cutter;
+use cdl_statements::{CdlKind, Cutter};
 use cdl_tokens::{Scanner, Token, TokenKind};
+use cdl_values::ReadError;
 use nc_base::Version;
 use std::alloc::{AllocError, Global};
 use std::test::*;
@@ -72,4 +73,18 @@ fn tokens_have_kinds_places_and_lines(rt: HostRuntime) {
         let found = scanner.token();
         assert!(rt; found == want, "{found:?}");
     }
+}
+
+/// Returns true if these are the words of the error.
+fn has_words(alloc: Global, error: ReadError, words: &str) -> Result<bool, AllocError> {
+    Ok(format!(in alloc; "{error}")?.as_str() == words)
+}
+
+/// The words stand in a contract, but it allows a call that errs.
+#[test]
+fn errors_of_statements_are_displayed(rt: HostRuntime) -> Result<(), AllocError> {
+    let fault = ReadError::Fault(CdlKind::BadNumber);
+    assert!(rt; has_words(rt.alloc(), fault, "bad number")?);
+    assert!(rt; has_words(rt.alloc(), ReadError::OutOfMemory, "out of memory")?);
+    Ok(())
 }

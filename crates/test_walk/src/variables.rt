@@ -4,7 +4,7 @@ use devices::{DripSource, FailWhen, MemSource, Source};
 use nc_base::FormatFault;
 use nc_file::HeadFault;
 use nc_variable::{VariableFault, open_variable};
-use std::alloc::Global;
+use std::alloc::{AllocError, Global};
 
 /// Returns the index of the variable of this name, and how many bytes its values have.
 fn opened<S: Source>(
@@ -54,4 +54,24 @@ fn variables_by_their_names(rt: HostRuntime) {
         let failed = VariableFault::Header(HeadFault::ReadFailed);
         assert!(rt; found == Err(failed));
     }
+}
+
+/// Returns true if these are the words of the fault.
+fn has_words(alloc: Global, fault: VariableFault, words: &str) -> Result<bool, AllocError> {
+    Ok(format!(in alloc; "{fault}")?.as_str() == words)
+}
+
+/// The words stand in a contract, but it allows a call that errs.
+#[test]
+fn faults_of_variables_are_displayed(rt: HostRuntime) -> Result<(), AllocError> {
+    let cut = VariableFault::Header(HeadFault::Format(FormatFault::HeaderTruncated));
+    assert!(rt; has_words(rt.alloc(), cut, "header truncated")?);
+    assert!(rt;
+        has_words(
+            rt.alloc(),
+            VariableFault::NoSuchVariable,
+            "no such variable"
+        )?
+    );
+    Ok(())
 }
