@@ -6,7 +6,8 @@ ghost use Rattle.devices.specs.code.PathOpens.{NamesAsBefore};
 ghost use Rattle.devices.specs.code.SinkWrites.{Wrote};
 ghost use Rattle.nccheck.specs.PathLists.{Path};
 ghost use Rattle.nccheck.specs.Runs.{ChecksBytes, ChecksItem, ChecksNamed, ChecksPath, ends_run, OpensFile, openings};
-ghost use Rattle.nccheck.specs.Runs.{ReadFailsOnly, shown, state, WriteFailsOnly};
+ghost use Rattle.nccheck.specs.Runs.{shown, state, WriteFailsOnly};
+ghost use Rattle.nccheck.specs.code.OpenedFiles.{ReadsOpened};
 ghost use Rattle.nccheck.specs.code.Options.{asked_for};
 
 use crate::fault::FileFault;
@@ -129,7 +130,7 @@ fn check_source<S: Source, O: Sink>(
     options: &CheckOptions<'_>,
     out: &mut O,
 ) -> Result<Option<Severity>, FileFault>
-    ensures reads { ReadFailsOnly (S.view source.old).failures (S.view source.new).failures result }
+    ensures reads { ReadsOpened (S.view source.old).failures (S.view source.new).failures result }
     ensures writes { WriteFailsOnly (O.view out.old) (O.view out.new) result }
     ensures checks { OnTrue S.is_transparent (ChecksBytes
         (asked_for options.now) (S.view source.old).bytes file.now
