@@ -357,7 +357,7 @@ options no_coordinates_among_chosen "$head}\\n" -v s -c grid.nc
 # Devices that take nothing: only the flush at the end fails, without a line, or a write before it. A file that may not be read.
 if has_full_device; then
     run to_full_device "$samples/records.nc"
-    verdict full_standard_output_at_the_end 1
+    verdict failing_flush_of_standard_output 1
     stderr 'ncdump: large.nc: write failed\n'
     run to_full_device large.nc
     verdict full_standard_output_on_the_way 1
