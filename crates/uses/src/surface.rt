@@ -1,17 +1,16 @@
 //! The calls and types that programs may count on, each named by its public path with its types: one that is lost or changed doesn't
 //! compile here. `docs/DECISIONS.md` says which of them have other types than they were specified with, and why.
 //!
-//! A function is named as a pointer of its type. One that lends out part of what it is given can't be, so it is called.
+//! A function is named as a pointer of its type. One that lends out part of what it is given can't be, so it is called. The variants of
+//! types, kinds and faults are named by the tests of their words.
 
 ghost use Rattle.std.specs.Prelude.{◌≡◌, ◌≤◌, ◌<◌, length};
 ghost use Rattle.nc_base.specs.Headers.{IsSound};
 
-use cdl_parse::{CdlFault, CdlKind, Cutter, Token, TokenKind, parse};
+use cdl_parse::{CdlFault, Cutter, Token, TokenKind, parse};
 use clap::{ArgMatches, Command};
 use cli_base::OptFault;
-use nc_base::{
-    Att, Dataset, Dim, FormatFault, Header, ListedArray, NcType, NumRecs, Sequence, Var, Version,
-};
+use nc_base::{Att, Dataset, Dim, Header, ListedArray, NcType, NumRecs, Sequence, Var, Version};
 use nc_file::{
     CountedRead, DripSource, FailWhen, FileSource, Flush, HeadFault, IoSink, MemSink, MemSource,
     OffsetTooLarge, OpenFailed, Sink, SinkFailed, SliceSink, Source, SourceFailed, WriteFailed,
@@ -23,107 +22,6 @@ use std::alloc::{AllocError, Global};
 use std::fs::File;
 use std::io::{Read, Write};
 use std::rt::Files;
-
-/// The versions, and the types of values.
-pub const VERSIONS: [Version; 3] = [Version::Cdf1, Version::Cdf2, Version::Cdf5];
-
-pub const TYPES: [NcType; 9] = [
-    NcType::Byte,
-    NcType::Char,
-    NcType::Short,
-    NcType::Int,
-    NcType::Ubyte,
-    NcType::Ushort,
-    NcType::Uint,
-    NcType::Int64,
-    NcType::Uint64,
-];
-
-/// What is wrong with the bytes of a header.
-pub const FORMAT_FAULTS: [FormatFault; 12] = [
-    FormatFault::NotNetcdf,
-    FormatFault::UnknownVersion(3),
-    FormatFault::HeaderTruncated,
-    FormatFault::BadTag,
-    FormatFault::BadCount,
-    FormatFault::BadName,
-    FormatFault::FloatingType,
-    FormatFault::BadType,
-    FormatFault::BadShape,
-    FormatFault::TwoRecordDims,
-    FormatFault::BadOffset,
-    FormatFault::TooLarge,
-];
-
-/// What is wrong with a text.
-pub const CDL_KINDS: [CdlKind; 20] = [
-    CdlKind::OutOfMemory,
-    CdlKind::BadToken,
-    CdlKind::BadNumber,
-    CdlKind::Syntax,
-    CdlKind::BadName,
-    CdlKind::DuplicateName,
-    CdlKind::UnknownDimension,
-    CdlKind::UnknownVariable,
-    CdlKind::FloatingType,
-    CdlKind::UnknownType,
-    CdlKind::ZeroDimension,
-    CdlKind::TwoRecordDims,
-    CdlKind::BadShape,
-    CdlKind::MixedConstants,
-    CdlKind::NumberRange,
-    CdlKind::WrongKind,
-    CdlKind::TooManyValues,
-    CdlKind::StringTooLong,
-    CdlKind::DuplicateData,
-    CdlKind::TooLarge,
-];
-
-/// The kinds of tokens.
-pub const TOKEN_KINDS: [TokenKind; 7] = [
-    TokenKind::Opening,
-    TokenKind::Word,
-    TokenKind::Number,
-    TokenKind::Text,
-    TokenKind::Mark,
-    TokenKind::Bad,
-    TokenKind::End,
-];
-
-/// The faults of the programs and their parts, and the failures of devices.
-pub const HEAD_FAULTS: [HeadFault; 3] = [
-    HeadFault::OutOfMemory,
-    HeadFault::ReadFailed,
-    HeadFault::Format(FormatFault::BadTag),
-];
-
-pub const WALK_FAULTS: [WalkFault; 2] = [WalkFault::ReadFailed, WalkFault::DataTruncated(0)];
-
-pub const DUMP_FAULTS: [DumpFault; 6] = [
-    DumpFault::OutOfMemory,
-    DumpFault::ReadFailed,
-    DumpFault::WriteFailed,
-    DumpFault::Format(FormatFault::BadTag),
-    DumpFault::NoSuchVariable(0),
-    DumpFault::DataTruncated { var: 0, value: 0 },
-];
-
-pub const GEN_FAULTS: [GenFault; 3] = [
-    GenFault::Cdl(CdlFault {
-        line: 1,
-        kind: CdlKind::Syntax,
-    }),
-    GenFault::OffsetTooLarge,
-    GenFault::WriteFailed,
-];
-
-pub const TEXT_FAULTS: [TextFault; 3] = [
-    TextFault::OutOfMemory,
-    TextFault::ReadFailed,
-    TextFault::CdlTooLong,
-];
-
-pub const OPT_FAULTS: [OptFault; 2] = [OptFault::OutOfMemory, OptFault::Usage];
 
 /// A header with one dimension, one attribute and one variable, and the dataset of it, field by field.
 pub fn dataset(
@@ -216,8 +114,6 @@ pub fn bytes_handed(source: &DripSource<'_>) -> u128 {
 pub fn sink_over_slice(into: &mut [u8]) -> SliceSink<'_> {
     SliceSink::new(into, 1)
 }
-
-pub const FAIL_WHEN: [FailWhen; 3] = [FailWhen::Never, FailWhen::From(80), FailWhen::Read(0)];
 
 /// A file of the system as a source.
 pub fn file_source(rt: &impl Files<File = File>, path: &str) -> Result<FileSource, OpenFailed> {
