@@ -6,12 +6,12 @@
 //! flushes. If only this flush of standard output fails, no line says so.
 #![tactic(auto)]
 
-ghost use Rattle.std.specs.Prelude.{◌≡◌, true};
+ghost use Rattle.std.specs.Prelude.{◌≡◌, ◌⊎◌, true};
+ghost use Rattle.devices.specs.Failures.{HasFailed};
 
 use cli_base::OptFault;
-use devices::{Flush, IoSink, Sink};
+use devices::{Flush, IoSink};
 use ncdump::{put_command_line_fault, run};
-use std::alloc::Global;
 use std::fs::File;
 use std::io::{BufWriter, Write};
 use std::process::ExitCode;
@@ -52,23 +52,19 @@ fn run_words<R: Env + Files<File = File> + Print + AllocGlobal, E: Write + Drop>
     let words: Vec<&str> = arguments.iter().map(|word| word.as_str()).collect(alloc)?;
     let mut out = IoSink::new(BufWriter::with_capacity(alloc, TEXT_HELD_BACK, io::writer(rt))?);
     let mut err = IoSink::new(BufWriter::with_capacity(alloc, LINE_HELD_BACK, stderr)?);
-    let status = run_and_flush(rt, alloc, words.as_slice(), &mut out, &mut err);
+    let run_status = run(rt, alloc, words.as_slice(), &mut out, &mut err);
+    let status = flush_after_run(&mut out, run_status);
     let _ = err.flush();
     Ok(status)
 }
 
-/// Runs the program on these words, and flushes `out`, also after a failure. Returns the exit status: that of the run, or 1 if the flush
-/// failed.
-fn run_and_flush<R: Files<File = File>, O: Flush, E: Sink>(
-    rt: &R,
-    alloc: Global,
-    words: &[&str],
-    out: &mut O,
-    err: &mut E,
-) -> u8
-    ensures { result ≡ 0 → O.is_flushed out.new ≡ true }
+/// Flushes `out` after a run that had this status, whatever it is. Returns the exit status: that of the run, or 1 if the flush failed.
+fn flush_after_run<O: Flush>(out: &mut O, status: u8) -> u8
+    ensures flushed { (O.is_flushed out.new ≡ true)
+        ⊎ HasFailed (O.Sink.view out.old).failures (O.Sink.view out.new).failures }
+    ensures zero { result ≡ 0 → O.is_flushed out.new ≡ true }
+    ensures status { (result ≡ status) ⊎ (result ≡ 1) }
 {
-    let status = run(rt, alloc, words, out, err);
     match out.flush() {
         Ok(()) => status,
         Err(_) => FAILED,
