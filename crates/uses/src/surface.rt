@@ -1,11 +1,14 @@
 //! The calls and types that programs may count on, each named by its public path with its types: one that is lost or changed doesn't
 //! compile here. `docs/DECISIONS.md` says which of them have other types than they were specified with, and why.
 //!
-//! A function is named as a pointer of its type. One that lends out part of what it is given can't be, so it is called. The variants of
-//! types, kinds and faults are named by the tests of their words.
+//! A function is named as a pointer of its type. One that is generic, or lends out part of what it is given, can't be, so it is called. The
+//! variants of types, kinds and faults are named by the tests of their words.
 
-ghost use Rattle.std.specs.Prelude.{◌≡◌, ◌≤◌, ◌<◌, length};
+ghost use Rattle.std.specs.Prelude.{◌≡◌, ◌≤◌, ◌<◌, ◌+◌, ◌^◌, All, length};
 ghost use Rattle.nc_base.specs.Headers.{IsSound};
+ghost use Rattle.nc_base.specs.Versions.{offset_limit};
+ghost use Rattle.nc_walk.specs.code.RecordSlabs.{record_slabs};
+ghost use Rattle.nc_walk.specs.code.DataPart.{AreListedOf};
 
 use cdl_parse::{CdlFault, Cutter, Token, TokenKind, parse};
 use clap::{ArgMatches, Command};
@@ -23,36 +26,34 @@ use std::fs::File;
 use std::io::{Read, Write};
 use std::rt::Files;
 
-/// A header with one dimension, one attribute and one variable, and the dataset of it, field by field.
-pub fn dataset(
-    alloc: Global,
-    name: [Sequence<u8>; 3],
-    vals: Sequence<u8>,
-) -> Result<Dataset, AllocError> {
-    let [dim_name, att_name, var_name] = name;
-    let mut header = Header {
-        version: Version::Cdf1,
-        numrecs: NumRecs::Known(0),
-        dims: Sequence::new(alloc),
-        gatts: Sequence::new(alloc),
-        vars: Sequence::new(alloc),
-    };
-    header.dims.push(Dim {
-        name: dim_name,
+/// A dataset with a dimension, an attribute and a variable of this name, field by field.
+pub fn dataset(alloc: Global, name: &[u8]) -> Result<Dataset, AllocError> {
+    let mut dims = Sequence::new(alloc);
+    dims.push(Dim {
+        name: Sequence::from_vec(Vec::from_slice(alloc, name)?),
         len: 0,
     })?;
-    header.gatts.push(Att {
-        name: att_name,
+    let mut gatts = Sequence::new(alloc);
+    gatts.push(Att {
+        name: Sequence::from_vec(Vec::from_slice(alloc, name)?),
         ty: NcType::Char,
-        vals,
+        vals: Sequence::new(alloc),
     })?;
-    header.vars.push(Var {
-        name: var_name,
+    let mut vars = Sequence::new(alloc);
+    vars.push(Var {
+        name: Sequence::from_vec(Vec::from_slice(alloc, name)?),
         dimids: Sequence::new(alloc),
         atts: Sequence::new(alloc),
         ty: NcType::Int,
         begin_at: 0,
     })?;
+    let header = Header {
+        version: Version::Cdf1,
+        numrecs: NumRecs::Known(0),
+        dims,
+        gatts,
+        vars,
+    };
     Ok(Dataset {
         header,
         arrays: Sequence::<Sequence<u8>>::new(alloc),
@@ -80,18 +81,47 @@ pub fn stem(path: &str) -> &str {
     nc_base::stem(path)
 }
 
-/// The devices of `nc_file`, and the calls of any source, sink and writer.
-pub fn devices<S: Source, W: Sink, O: Flush, R: Read, V: Write>() {
-    let _: fn(&S) -> u64 = S::len;
-    let _: fn(&mut S, u64, &mut [u8]) -> Result<usize, SourceFailed> = S::read_at;
-    let _: fn(&mut W, &[u8]) -> Result<usize, SinkFailed> = W::write_some;
-    let _: fn(&mut O) -> Result<(), SinkFailed> = O::flush;
-    let _: fn(Global) -> MemSink = MemSink::new;
-    let _: fn(V) -> IoSink<V> = IoSink::new;
-    let _: fn(R) -> CountedRead<R> = CountedRead::new;
-    let _: fn(&mut CountedRead<R>, &mut [u8]) -> Result<usize, SourceFailed> =
-        CountedRead::read_some;
-    let _: fn(&mut W, &[u8]) -> Result<(), WriteFailed> = nc_file::put;
+/// The calls of any source, sink, output, writer and reader.
+pub fn source_len<S: Source>(source: &S) -> u64 {
+    source.len()
+}
+
+pub fn read_at<S: Source>(source: &mut S, at: u64, into: &mut [u8]) -> Result<usize, SourceFailed>
+    requires room { 0 < length into.old }
+    requires inside { at < length (S.view source.old).bytes }
+{
+    source.read_at(at, into)
+}
+
+pub fn write_some<W: Sink>(sink: &mut W, bytes: &[u8]) -> Result<usize, SinkFailed> {
+    sink.write_some(bytes)
+}
+
+pub fn flush<O: Flush>(out: &mut O) -> Result<(), SinkFailed> {
+    out.flush()
+}
+
+pub fn sink_over_writer<V: Write>(writer: V) -> IoSink<V> {
+    IoSink::new(writer)
+}
+
+pub fn counted_reader<R: Read>(reader: R) -> CountedRead<R> {
+    CountedRead::new(reader)
+}
+
+pub fn read_some<R: Read>(
+    input: &mut CountedRead<R>,
+    into: &mut [u8],
+) -> Result<usize, SourceFailed> {
+    input.read_some(into)
+}
+
+pub fn put<W: Sink>(sink: &mut W, bytes: &[u8]) -> Result<(), WriteFailed> {
+    nc_file::put(sink, bytes)
+}
+
+pub fn sink_in_memory(alloc: Global) -> MemSink {
+    MemSink::new(alloc)
 }
 
 /// Devices that keep what they are given: a source in memory, the bytes of a sink, and what stands in for devices in tests.
@@ -121,15 +151,39 @@ pub fn file_source(rt: &impl Files<File = File>, path: &str) -> Result<FileSourc
 }
 
 /// The calls of `nc_file` on headers, of `nc_walk` on the data part of a file, and of `cdl_print` on heads and names.
-pub fn files<S: Source, W: Sink>() {
-    let _: fn(Global, &mut S, &mut [u8]) -> Result<Header, HeadFault> = nc_file::read_header;
+pub fn headers() {
     let _: fn(Header) -> Result<Header, OffsetTooLarge> = nc_file::with_begins;
     let _: fn(&Header) -> u64 = nc_file::header_len;
-    let _: fn(&mut W, &Header) -> Result<(), WriteFailed> = nc_file::write_header;
-    let _: fn(&mut W, &Header, &[RecordSlab], &[ListedArray]) -> Result<(), WriteFailed> =
-        nc_walk::write_data;
-    let _: fn(&mut W, &[u8]) -> Result<(), WriteFailed> = cdl_print::put_name;
-    let _: fn(&mut W, &[u8], &Header, u64) -> Result<(), WriteFailed> = cdl_print::put_head;
+}
+
+pub fn read_header<S: Source>(
+    alloc: Global,
+    source: &mut S,
+    buf: &mut [u8],
+) -> Result<Header, HeadFault>
+    requires { 16 ≤ length buf.old }
+{
+    nc_file::read_header(alloc, source, buf)
+}
+
+pub fn write_file<W: Sink>(
+    sink: &mut W,
+    header: &Header,
+    slabs: &[RecordSlab],
+    arrays: &[ListedArray],
+) -> Result<(), WriteFailed>
+    requires sound { IsSound header.now }
+    requires begins { All (λ var. var.begin_at < offset_limit header.now.version) header.now.vars }
+    requires slabs { slabs.now ≡ record_slabs 0 header.now.dims header.now.vars }
+    requires listed { AreListedOf header.now arrays.now }
+{
+    nc_file::write_header(sink, header)?;
+    nc_walk::write_data(sink, header, slabs, arrays)
+}
+
+pub fn put_head<W: Sink>(sink: &mut W, name: &[u8], header: &Header) -> Result<(), WriteFailed> {
+    cdl_print::put_name(sink, name)?;
+    cdl_print::put_head(sink, name, header, 0)
 }
 
 /// The first values of a variable, by `Walk`, and the failure of a walk.
@@ -201,24 +255,96 @@ pub fn options(alloc: Global, matches: &ArgMatches<'_>) -> Result<GenOptions, Op
 }
 
 /// The calls of `ncdump`.
-pub fn dumps<S: Source, W: Sink, E: Sink>() {
+pub fn select() {
     let _: fn(Global, &Header, &DumpOptions) -> Result<Vec<bool>, DumpFault> = ncdump::select;
-    let _: fn(Global, &mut S, &DumpOptions, &mut [u8], &mut W) -> Result<(), DumpFault> =
-        ncdump::dump;
-    let _: fn(&mut S, &Header, &[bool], &DumpOptions, &mut [u8], &mut W) -> Result<(), DumpFault> =
-        ncdump::show;
-    let _: fn(&mut W, &[u8], &DumpFault) -> Result<(), WriteFailed> = ncdump::fault_line;
-    let _: fn(&HostRuntime, Global, &[&str], &mut W, &mut E) -> u8 = ncdump::run;
+}
+
+pub fn dump<S: Source, W: Sink>(
+    alloc: Global,
+    source: &mut S,
+    options: &DumpOptions,
+    buf: &mut [u8],
+    sink: &mut W,
+) -> Result<(), DumpFault>
+    requires { 16 ≤ length buf.old }
+{
+    ncdump::dump(alloc, source, options, buf, sink)
+}
+
+pub fn show<S: Source, W: Sink>(
+    source: &mut S,
+    header: &Header,
+    shown: &[bool],
+    options: &DumpOptions,
+    buf: &mut [u8],
+    sink: &mut W,
+) -> Result<(), DumpFault>
+    requires sound { IsSound header.now }
+    requires shown { length shown.now ≡ length header.now.vars }
+    requires buffer { 16 ≤ length buf.old }
+{
+    ncdump::show(source, header, shown, options, buf, sink)
+}
+
+pub fn dump_fault_line<W: Sink>(
+    sink: &mut W,
+    file: &[u8],
+    fault: &DumpFault,
+) -> Result<(), WriteFailed> {
+    ncdump::fault_line(sink, file, fault)
+}
+
+pub fn run_ncdump<O: Sink, E: Sink>(
+    rt: &HostRuntime,
+    alloc: Global,
+    words: &[&str],
+    out: &mut O,
+    err: &mut E,
+) -> u8 {
+    ncdump::run(rt, alloc, words, out, err)
 }
 
 /// The calls of `ncgen`.
-pub fn generates<R: Read, W: Sink>() {
-    let _: fn(Global, &mut CountedRead<R>, usize) -> Result<Vec<u8>, TextFault> = ncgen::read_text;
-    let _: fn(Global, &[u8], Version) -> Result<Prepared, GenFault> = ncgen::prepare;
-    let _: fn(&Prepared, &mut W) -> Result<(), WriteFailed> = Prepared::write;
-    let _: fn(Global, &[u8], Version, &mut W) -> Result<(), GenFault> = ncgen::generate;
-    let _: fn(&mut W, &[u8], &GenFault) -> Result<(), WriteFailed> = ncgen::fault_line;
-    let _: fn(&HostRuntime, Global, &[&str], &mut CountedRead<R>, &mut W) -> u8 = ncgen::run;
+pub fn read_text<R: Read>(
+    alloc: Global,
+    input: &mut CountedRead<R>,
+    max: usize,
+) -> Result<Vec<u8>, TextFault>
+    requires { max + 1 < 2 ^ 64 }
+{
+    ncgen::read_text(alloc, input, max)
+}
+
+pub fn prepare_and_write<W: Sink>(
+    alloc: Global,
+    text: &[u8],
+    sink: &mut W,
+) -> Result<(), GenFault> {
+    let prepared: Prepared = ncgen::prepare(alloc, text, Version::Cdf1)?;
+    let written: Result<(), WriteFailed> = prepared.write(sink);
+    Ok(written?)
+}
+
+pub fn generate<W: Sink>(alloc: Global, text: &[u8], sink: &mut W) -> Result<(), GenFault> {
+    ncgen::generate(alloc, text, Version::Cdf1, sink)
+}
+
+pub fn gen_fault_line<W: Sink>(
+    sink: &mut W,
+    file: &[u8],
+    fault: &GenFault,
+) -> Result<(), WriteFailed> {
+    ncgen::fault_line(sink, file, fault)
+}
+
+pub fn run_ncgen<R: Read, E: Sink>(
+    rt: &HostRuntime,
+    alloc: Global,
+    words: &[&str],
+    input: &mut CountedRead<R>,
+    err: &mut E,
+) -> u8 {
+    ncgen::run(rt, alloc, words, input, err)
 }
 
 /// The laws of files and texts.
