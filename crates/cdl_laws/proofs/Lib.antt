@@ -25,6 +25,5 @@ pub mod Trimmed
 pub mod TextReadsBack
 pub mod TextTokens
 pub mod RowsRead
-mod examples
 pub mod Prelude
 pub mod Readings

@@ -38,6 +38,9 @@ fn texts_give_their_files(rt: HostRuntime) -> Result<(), AllocError> {
         rows::ALL_NULS,
         rows::FILLED_ROWS,
         rows::FILLED_SHORTS,
+        rows::FILL_OF_ANOTHER_TYPE,
+        rows::UNPADDED_BESIDE_FIXED,
+        rows::JOINED_STRINGS,
         rows::UNSIGNED_RECORDS,
         rows::UNSIGNED_FILLS,
     ];

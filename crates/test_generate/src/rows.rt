@@ -153,6 +153,62 @@ pub const FILLED_SHORTS: Row = Row {
         variables:\n\tshort s(x) ;\n\t\ts:_FillValue = 9s ;\ndata:\n\n s = 1, _, _ ;\n}\n",
 };
 
+/// A fill value of the variable's type, which fills and pads, and one of another type, which doesn't.
+pub const FILL_OF_ANOTHER_TYPE: Row = Row {
+    version: Cdf1,
+    cdl: b"netcdf t { dimensions: x = 1 ; variables: short s(x) ; s:_FillValue = 7s ; short u(x) ; u:_FillValue = 7 ; }",
+    file: b"CDF\x01\0\0\0\0\
+        \0\0\0\x0a\0\0\0\x01\
+        \0\0\0\x01x\0\0\0\0\0\0\x01\
+        \0\0\0\0\0\0\0\0\
+        \0\0\0\x0b\0\0\0\x02\
+        \0\0\0\x01s\0\0\0\
+        \0\0\0\x01\0\0\0\0\
+        \0\0\0\x0c\0\0\0\x01\
+        \0\0\0\x0a_FillValue\0\0\0\0\0\x03\0\0\0\x01\0\x07\0\0\
+        \0\0\0\x03\0\0\0\x04\0\0\0\xac\
+        \0\0\0\x01u\0\0\0\
+        \0\0\0\x01\0\0\0\0\
+        \0\0\0\x0c\0\0\0\x01\
+        \0\0\0\x0a_FillValue\0\0\0\0\0\x04\0\0\0\x01\0\0\0\x07\
+        \0\0\0\x03\0\0\0\x04\0\0\0\xb0\
+        \0\x07\0\x07\x80\x01\x80\x01",
+    dump: b"netcdf t {\ndimensions:\n\tx = 1 ;\nvariables:\n\
+        \tshort s(x) ;\n\t\ts:_FillValue = 7s ;\n\tshort u(x) ;\n\t\tu:_FillValue = 7 ;\n\
+        data:\n\n s = _ ;\n\n u = _ ;\n}\n",
+};
+
+/// A sole record variable of bytes, whose records aren't padded, and one without records, which is.
+pub const UNPADDED_BESIDE_FIXED: Row = Row {
+    version: Cdf1,
+    cdl: b"netcdf t { dimensions: t = UNLIMITED ; variables: byte b(t) ; byte c ; data: b = 1, 2, 3, 4, 5 ; c = 9 ; }",
+    file: b"CDF\x01\0\0\0\x05\
+        \0\0\0\x0a\0\0\0\x01\
+        \0\0\0\x01t\0\0\0\0\0\0\0\
+        \0\0\0\0\0\0\0\0\
+        \0\0\0\x0b\0\0\0\x02\
+        \0\0\0\x01b\0\0\0\
+        \0\0\0\x01\0\0\0\0\
+        \0\0\0\0\0\0\0\0\
+        \0\0\0\x01\0\0\0\x04\0\0\0\x74\
+        \0\0\0\x01c\0\0\0\
+        \0\0\0\0\
+        \0\0\0\0\0\0\0\0\
+        \0\0\0\x01\0\0\0\x04\0\0\0\x70\
+        \x09\x81\x81\x81\
+        \x01\x02\x03\x04\x05",
+    dump: b"netcdf t {\ndimensions:\n\tt = UNLIMITED ; // (5 currently)\n\
+        variables:\n\tbyte b(t) ;\n\tbyte c ;\ndata:\n\n b = 1, 2, 3, 4, 5 ;\n\n c = 9 ;\n}\n",
+};
+
+/// Two lines of text, which a text says by two strings.
+pub const JOINED_STRINGS: Row = Row {
+    version: Cdf1,
+    cdl: b"netcdf t { :note = \"a\\n\", \"b\\n\" ; }",
+    file: test_files::TEXT_ATTRIBUTE,
+    dump: b"netcdf t {\n\n// global attributes:\n\t\t:note = \"a\\n\",\n\t\t\t\"b\\n\" ;\n}\n",
+};
+
 /// Unsigned bytes as a sole record variable, in CDF-5: no value of theirs is a fill value, and records aren't padded.
 pub const UNSIGNED_RECORDS: Row = Row {
     version: Cdf5,

@@ -31,7 +31,9 @@ static DATASETS: &[(&[u8], &str)] = &[
     (CONSTANTS, CONSTANTS_SAID),
     (DIFFERENT_LENGTHS, DIFFERENT_LENGTHS_SAID),
     (NO_RECORDS, NO_RECORDS_SAID),
+    (RECORD_OF_FILL, RECORD_OF_FILL_SAID),
     (FILL_VALUES, FILL_VALUES_SAID),
+    (FILL_VALUE_AND_NUL, FILL_VALUE_AND_NUL_SAID),
     (SAME_NAMES, SAME_NAMES_SAID),
     (SAME_HASH, SAME_HASH_SAID),
     (FILLED_ROW, FILLED_ROW_SAID),
@@ -99,6 +101,17 @@ c Char [0]
 = ""
 = """#;
 
+/// A last record whose value is the fill value, and one that another variable lacks.
+const RECORD_OF_FILL: &[u8] =
+    b"netcdf t { dimensions: t = UNLIMITED ; variables: int r(t) ; char e(t) ; data: r = 1, 2, _ ; e = \"uv\" ; }";
+
+const RECORD_OF_FILL_SAID: &str = r#"Known(3)
+t = 0
+r Int [0]
+e Char [0]
+= "\x00\x00\x00\x01\x00\x00\x00\x02\x80\x00\x00\x01"
+= "uv\x00""#;
+
 /// Fill values of variables' own. Only the first one fits its variable.
 const FILL_VALUES: &[u8] =
     b"netcdf t {\ndimensions: x = 2 ;\nvariables: byte b(x), c(x), d(x) ; char e(x) ;\n\
@@ -119,6 +132,17 @@ e:_FillValue Char "xy"
 = "\x81\x81"
 = "\x01\x81"
 = "e\x00""#;
+
+/// A character and a NUL, which are no fill value.
+const FILL_VALUE_AND_NUL: &[u8] =
+    b"netcdf t {\ndimensions:\n\tx = 3 ;\nvariables:\n\tchar c(x) ;\n\t\tc:_FillValue = \"a\\000\" ;\n\
+    data:\n\n c = \"b\" ;\n}\n";
+
+const FILL_VALUE_AND_NUL_SAID: &str = r#"Known(0)
+x = 3
+c Char [0]
+c:_FillValue Char "a\x00"
+= "b\x00\x00""#;
 
 /// Dimensions, variables and attributes of one name, and attributes in each section before the data.
 const SAME_NAMES: &[u8] =

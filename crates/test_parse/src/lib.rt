@@ -19,3 +19,5 @@ mod refused_texts;
 mod refused_values;
 #[cfg(test)]
 mod statements;
+#[cfg(test)]
+mod tokens;

@@ -130,6 +130,8 @@ fn arrays_at_their_limit(rt: HostRuntime) {
     static TEXTS: &[&[u8]] = &[
         b"netcdf t { dimensions: x = 16777216 ; variables: byte b(x, x) ; }",
         b"netcdf t { dimensions: t = UNLIMITED, x = 16777216 ; variables: byte b(t, x, x), c(t) ; data: c = 1 ; }",
+        // two records of half as many
+        b"netcdf t { dimensions: t = UNLIMITED, x = 16777216, y = 8388608 ; variables: byte b(t, x, y), c(t) ; data: c = 1, 2 ; }",
     ];
     for text in TEXTS {
         assert!(rt; declared_fault(rt.alloc(), *text).is_none());

@@ -98,6 +98,10 @@ const STRINGS: Texts = Texts {
         \\a\\b\\t\\n\\v\\f\\r|\\x07\\x08\\t\\n\\x0b\\x0c\\r\n\
         \\\\\\\"\\'\\?\\q\\X41|\\\\\\\"\\'?qX41\n\
         \\^\\\xff|\\n\\xff\n\
+        # each other byte that is printed stands for itself, but for digits, the marks of this table and what has a row above\n\
+        \\ \\!\\#\\$\\%\\&\\(\\)\\*\\+\\,\\-\\.\\/\\:\\;\\<\\=\\>\\@| !#$%&()*+,-./:;<=>@\n\
+        \\A\\B\\C\\D\\E\\F\\G\\H\\I\\J\\K\\L\\M\\N\\O\\P\\Q\\R\\S\\T\\U\\V\\W\\X\\Y\\Z|ABCDEFGHIJKLMNOPQRSTUVWXYZ\n\
+        \\c\\d\\e\\g\\h\\i\\j\\k\\l\\m\\o\\p\\q\\s\\u\\w\\y\\z\\[\\]\\_\\`\\{\\}\\~|cdeghijklmopqsuwyz[]_`{}~\n\
         \\8\\9|89\n\
         \\1-\\7-\\18\\778|\\x01-\\x07-\\x018?8\n\
         \\0\\00\\000\\0000|\\x00\\x00\\x00\\x000\n\

@@ -140,6 +140,8 @@ const UINT64S: Texts = Texts {
 18446744073709551615|\xff\xff\xff\xff\xff\xff\xff\xff
 01777777777777777777777|\xff\xff\xff\xff\xff\xff\xff\xff
 0xffffffffffffffff|\xff\xff\xff\xff\xff\xff\xff\xff
+0x0123456789abcdef|\x01#Eg\x89\xab\xcd\xef
+0XFEDCBA9876543210|\xfe\xdc\xba\x98vT2\x10
 ",
     refused: br"
 -1|3 NumberRange
@@ -189,6 +191,7 @@ const CONSTANTS: Texts = Texts {
 +1l|Int "\x00\x00\x00\x01"
 # in hexadecimal, `b` is a digit
 0x1b|Int "\x00\x00\x00\x1b"
+0x1bb|Int "\x00\x00\x01\xbb"
 0X1BS|Short "\x00\x1b"
 0xAbCdEfL|Int "\x00\xab\xcd\xef"
 127b, -128B|Byte "\x7f\x80"
@@ -227,6 +230,14 @@ const CONSTANTS: Texts = Texts {
 0b1|2 BadNumber
 0o7|2 BadNumber
 12a|2 BadNumber
+12c|2 BadNumber
+12_|2 BadNumber
+12bs|2 BadNumber
+1x1|2 BadNumber
+00x1|2 BadNumber
+# a sign that no digit follows is no number
++|2 BadToken
++-7|2 BadToken
 ",
     ..WHOLE
 };
@@ -252,6 +263,7 @@ const CONSTANTS_OF_CDF5: Texts = Texts {
 4294967296u|2 NumberRange
 9223372036854775808ll|2 NumberRange
 18446744073709551616ull|2 NumberRange
+12us1|2 BadNumber
 1u, 1|2 MixedConstants
 1ub, 1b|2 MixedConstants
 1L, 1LL|2 MixedConstants
@@ -265,6 +277,7 @@ const CONSTANTS_OF_OLD_VERSIONS: Texts = Texts {
     given: b"",
     refused: br"
 256UB|2 BadNumber
+0x1ub|2 BadNumber
 -1U|2 BadNumber
 1us|2 BadNumber
 1ll|2 BadNumber
@@ -316,6 +329,7 @@ const LENGTHS_OF_OLD_VERSIONS: Texts = Texts {
     given: b"",
     refused: br"
 2147483648|2 NumberRange
+9223372036854775807|2 NumberRange
 0x80000000|2 NumberRange
 ",
     ..LENGTHS

@@ -56,20 +56,26 @@ fn check_rows(
     rows: &[u8],
 ) -> Result<(), AllocError> {
     for row in rows.split(|byte| *byte == b'\n') {
-        match row.iter().position(|byte| *byte == b'|') {
-            Some(at) => {
-                let text = between(alloc, texts.around, &row[..at])?;
-                let want = between(alloc, said, &row[at + 1..])?;
-                gives_in_each(rt, alloc, texts.versions, text.as_slice(), want.as_slice())?;
-            }
-            None => assert!(rt; row.is_empty() || row.starts_with(b"# "), "{row:?}"),
+        if let Some((part, want)) = halves(rt, row) {
+            let text = between(alloc, texts.around, part)?;
+            let want = between(alloc, said, want)?;
+            gives_in_each(rt, alloc, texts.versions, text.as_slice(), want.as_slice())?;
         }
     }
     Ok(())
 }
 
+/// The part of a row and what is said of it; or none if the row is empty or a comment. Fails on any other row.
+pub fn halves<'a>(rt: &impl Abort, row: &'a [u8]) -> Option<(&'a [u8], &'a [u8])> {
+    let Some(at) = row.iter().position(|byte| *byte == b'|') else {
+        assert!(rt; row.is_empty() || row.starts_with(b"# "), "{row:?}");
+        return None;
+    };
+    Some((&row[..at], &row[at + 1..]))
+}
+
 /// The part of a row, with line feeds for its marks, between two texts.
-fn between(alloc: Global, around: (&str, &str), part: &[u8]) -> Result<Vec<u8>, AllocError> {
+pub fn between(alloc: Global, around: (&str, &str), part: &[u8]) -> Result<Vec<u8>, AllocError> {
     let mut text = Vec::from_slice(alloc, around.0.as_bytes())?;
     for byte in part {
         text.push(if *byte == b'^' { b'\n' } else { *byte })?;
@@ -112,6 +118,14 @@ pub fn joined(alloc: Global, parts: &[&str]) -> Result<String, AllocError> {
         text.push_str(*part)?;
     }
     Ok(text)
+}
+
+/// Appends the word, after a space if it isn't the first one.
+pub fn push_word(said: &mut String, word: &str) -> Result<(), AllocError> {
+    if !said.is_empty() {
+        said.push(' ')?;
+    }
+    Ok(said.push_str(word)?)
 }
 
 /// What the text gives: its dataset, or its fault with its line.

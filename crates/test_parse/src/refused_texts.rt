@@ -16,9 +16,11 @@ netcdf t|1 BadToken
 netcdft {}|1 BadToken
 netcdf\ {}|1 BadToken
 netcdf \{}|1 BadToken
+netcdf//c^ t {}|1 BadToken
 \netcdf t {}|1 BadToken
 NETCDF ;|1 Syntax
 t netcdf t {}|1 BadToken
+x ; netcdf t {}|1 Syntax
 }^}|1 Syntax
 dimensions: x = 3 ; }|1 Syntax
 ^// netcdf t {^}|3 Syntax
@@ -30,6 +32,8 @@ netcdf t {^dimensions:^x^= 3^}|3 Syntax
 netcdf t {} y|1 Syntax
 netcdf t {}^}|2 Syntax
 netcdf t {}^;|2 Syntax
+netcdf t {^} // %^}|3 Syntax
+netcdf t {} 08|1 BadNumber
 netcdf t {^}^^y^%|4 BadToken
 netcdf t {^dimensions: x = 0 ;^data: q = 1 ;^}^|2 ZeroDimension
 netcdf t {^dimensions: t = UNLIMITED, u = UNLIMITED ;^}^|2 TwoRecordDims
@@ -46,17 +50,33 @@ const ATTRIBUTES: Texts = Texts {
 # the shape
 ;|3 Syntax
 y = 3 ;|3 Syntax
+y:a = 1 ;|3 Syntax
+=a = 1 ;|3 Syntax
 int z ;|3 Syntax
 netcdf ;|3 Syntax
 netcdf t {}|3 BadToken
 : a = 1|3 Syntax
 : a = ;|3 Syntax
 : a ;|3 Syntax
+: ;|3 Syntax
 : = 1 ;|3 Syntax
+: = = 1 ;|3 Syntax
+: a 1 ;|3 Syntax
+: a : 1 ;|3 Syntax
+: a 1 1 ;|3 Syntax
+: a "=" 1 ;|3 Syntax
+: a = = ;|3 Syntax
 : a = 1, ;|3 Syntax
+: a = , 1 ;|3 Syntax
+: a = 1,, 2 ;|3 Syntax
+: a = 1 : 2 ;|3 Syntax
+: a = (1) ;|3 Syntax
 : a = b ;|3 Syntax
+: a = int ;|3 Syntax
 : int = 1 ;|3 Syntax
+: 1 = 1 ;|3 Syntax
 : "a" = 1 ;|3 Syntax
+// c^^:a = 1|5 Syntax
 :a = _ ;|3 Syntax
 :a = 1, _, 3, 4, 5 ;|3 Syntax
 :a = 1, 2, 3, _, 5 ;|3 Syntax
@@ -64,7 +84,9 @@ netcdf t {}|3 BadToken
 :a = 1, 2, t, 4, 5 ;|3 Syntax
 # tokens come before the shape
 :t = 1, %, 08 ;|3 BadToken
+:t = 1 %|3 BadToken
 :t = 1 08 ;|3 BadNumber
+:a^=^1.5^;|3 BadNumber
 :a = 1, 08, 3, 4 ;|3 BadNumber
 :a = 1, 2s, 3, 08, 5 ;|3 BadNumber
 :a = 1, 2, 3, 4, %, 6 ;|3 BadToken
@@ -73,7 +95,9 @@ netcdf t {}|3 BadToken
 :t = 1, "x" ;|3 DuplicateName
 :\t = 300b ;|3 DuplicateName
 :t = 2 ;|3 DuplicateName
+:a = "x^y" ;^:a = 1 ;|5 DuplicateName
 :a = 1, 99999s ;|3 MixedConstants
+:a = 1b, 300s ;|3 MixedConstants
 :a = 1s, 32768s, "x" ;|3 NumberRange
 :a = "x", 300b ;|3 MixedConstants
 :a = 1, 2l, 3L, 4s ;|3 MixedConstants
@@ -97,12 +121,26 @@ const DIMENSIONS: Texts = Texts {
 y ;|2 Syntax
 y = ;|2 Syntax
 = 3 ;|2 Syntax
+1 = 3 ;|2 Syntax
+"y" = 3 ;|2 Syntax
+(y = 3) ;|2 Syntax
 y 3 ;|2 Syntax
+y : 3 ;|2 Syntax
+y = z ;|2 Syntax
+y = _ ;|2 Syntax
 y = "3" ;|2 Syntax
+y = UNLIMITED = 3 ;|2 Syntax
 y = Unlimited ;|2 Syntax
 y = \unlimited ;|2 Syntax
 y = 3, ;|2 Syntax
+y = 3, 3 ;|2 Syntax
+y = 3, z ;|2 Syntax
+y = 3, z = ;|2 Syntax
+y = 3, z : 4 ;|2 Syntax
+y = 3, "z" = 4 ;|2 Syntax
 y = 3 z = 4 ;|2 Syntax
+y = 3 : z = 4 ;|2 Syntax
+y = 3 = z = 4 ;|2 Syntax
 unlimited = 3 ;|2 Syntax
 int z ;|2 Syntax
 y:a = 1 ;|2 Syntax
@@ -132,21 +170,54 @@ const VARIABLES: Texts = Texts {
     ),
     refused: br#"
 # the shape
+;|3 Syntax
 int ;|3 Syntax
+z ;|3 Syntax
+"int" z ;|3 Syntax
+3 z ;|3 Syntax
+= z ;|3 Syntax
+int 3 ;|3 Syntax
+int "z" ;|3 Syntax
+int = 1 ;|3 Syntax
+int z = 1 ;|3 Syntax
 int z, ;|3 Syntax
+int z(x), ;|3 Syntax
+int , z ;|3 Syntax
+int z,, y ;|3 Syntax
 int z y ;|3 Syntax
+int z(x) y ;|3 Syntax
+int (x) ;|3 Syntax
 int z() ;|3 Syntax
 int z(x,) ;|3 Syntax
+int z(,x) ;|3 Syntax
+int z(x x) ;|3 Syntax
 int z(x ;|3 Syntax
+int z(x: ;|3 Syntax
+int z(x, y ;|3 Syntax
+int z(x), y(x ;|3 Syntax
+int z) ;|3 Syntax
 int z x) ;|3 Syntax
+int z(x)) ;|3 Syntax
+int z((x)) ;|3 Syntax
 int z(x)(x) ;|3 Syntax
+int z("x") ;|3 Syntax
 int z(byte) ;|3 Syntax
 int byte ;|3 Syntax
+float int ;|3 Syntax
 z = 3 ;|3 Syntax
+z = a = 1 ;|3 Syntax
+z: ;|3 Syntax
 z:a ;|3 Syntax
+z:a = ;|3 Syntax
+z:a : 1 ;|3 Syntax
+z::a = 1 ;|3 Syntax
 int z:a = 1 ;|3 Syntax
 z:byte = 1 ;|3 Syntax
+z:1 = 1 ;|3 Syntax
+z:"a" = 1 ;|3 Syntax
 byte:a = 1 ;|3 Syntax
+1:a = 1 ;|3 Syntax
+"z":a = 1 ;|3 Syntax
 z:a:b = 1 ;|3 Syntax
 variables: int z ;|3 Syntax
 dimensions: y = 3 ;|3 Syntax
@@ -168,6 +239,7 @@ quad q ; double s ;|3 UnknownType
 Int f ;|3 UnknownType
 string a\/b ;|3 UnknownType
 unlimited u ;|3 UnknownType
+data d ;|3 UnknownType
 int a\/b(q) ;|3 BadName
 int z(q), a\/b ;|3 UnknownDimension
 int z, z(q) ;|3 DuplicateName
@@ -180,9 +252,41 @@ int z ;^float f ;^int z ;|4 FloatingType
 a\/b:c\/d = 1 ;|3 BadName
 q:a\/b = 1 ;|3 UnknownVariable
 x:a = 1 ;|3 UnknownVariable
+z:a = 1 ; int z ;|3 UnknownVariable
 int z ; z:a\/b = 300b ;|3 BadName
 int z ; z:a = 1 ; z:\a = 300b ;|3 DuplicateName
 int z ; z:a = 1 ; z:\a = 2 ;|3 DuplicateName
+"#,
+    ..WHOLE
+};
+
+/// Marks of sections, which come once each and in order, and closing braces.
+const SECTIONS: Texts = Texts {
+    around: ("netcdf t {\n", "\n}\n"),
+    said: ("Known(0)", ""),
+    given: br"
+data:|
+data :|
+dimensions: variables: data:|
+dimensions: data:|
+",
+    refused: br#"
+data ;|2 Syntax
+data = ;|2 Syntax
+dimensions x = 1 ;|2 Syntax
+"data": ;|2 Syntax
+\data: ;|2 Syntax
+data :: ;|2 Syntax
+data dimensions: ;|2 Syntax
+dimensions: dimensions:|2 Syntax
+variables: variables:|2 Syntax
+variables: dimensions:|2 Syntax
+data: dimensions:|2 Syntax
+data: variables:|2 Syntax
+data: data:|2 Syntax
+data: } ;|2 Syntax
+} }|2 Syntax
+} x ;|2 Syntax
 "#,
     ..WHOLE
 };
@@ -204,6 +308,8 @@ uint64 v ;|2 UnknownType
 
 #[test]
 fn texts_are_refused(rt: HostRuntime) -> Result<(), AllocError> {
-    static ALL: &[Texts] = &[OPENINGS, ATTRIBUTES, DIMENSIONS, VARIABLES, OF_OLD_VERSIONS];
-    check(&rt, rt.alloc(), ALL)
+    static ALL: &[Texts] = &[OPENINGS, ATTRIBUTES, DIMENSIONS, VARIABLES];
+    static OTHERS: &[Texts] = &[SECTIONS, OF_OLD_VERSIONS];
+    check(&rt, rt.alloc(), ALL)?;
+    check(&rt, rt.alloc(), OTHERS)
 }

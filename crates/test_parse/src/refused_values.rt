@@ -48,11 +48,20 @@ const VALUES: Texts = Texts {
 s ;|5 Syntax
 s = ;|5 Syntax
 = 1 ;|5 Syntax
+1 = 1 ;|5 Syntax
+"s" = 1 ;|5 Syntax
 s 1 ;|5 Syntax
+s : 1 ;|5 Syntax
+s = = ;|5 Syntax
 s = x ;|5 Syntax
+s = __ ;|5 Syntax
 s = \_ ;|5 Syntax
 s = 1, ;|5 Syntax
+s = , 1 ;|5 Syntax
 s = 1,, 2 ;|5 Syntax
+s = 1 _ ;|5 Syntax
+s = 1 = 2 ;|5 Syntax
+int z ;|5 Syntax
 s(0) = 1 ;|5 Syntax
 s:a = 1 ;|5 Syntax
 :a = 1 ;|5 Syntax
@@ -79,6 +88,7 @@ s = "a" ;^q = 1 ;|5 WrongKind
 s = 1 ;^s = "a" ;|6 DuplicateData
 s = 40000, "a" ;|5 NumberRange
 s = "a", 40000 ;|5 WrongKind
+s = "_" ;|5 WrongKind
 s = 1, 2, 3, "a" ;|5 WrongKind
 s = 1, 2, 3, 40000 ;|5 TooManyValues
 s = 1, 2, 3, _ ;|5 TooManyValues
@@ -164,7 +174,7 @@ b = 1,^2,^3,^4, 5, 6 ;^r = 1,^2,^128, 4 ;|8 NumberRange
 /// Variables that are too large, or just not: the sizes come after all statements.
 const SIZES: Texts = Texts {
     around: (
-        "netcdf t {\ndimensions: x = 2147483647, t = UNLIMITED, h = 16777216, g = 16777217 ;\nvariables: ",
+        "netcdf t {\ndimensions: x = 2147483647, t = UNLIMITED, h = 16777216, g = 16777217, e = 8388608 ;\nvariables: ",
         "\n}\n",
     ),
     refused: br"
@@ -182,6 +192,7 @@ byte b(x, x) ; data: b = 1 ;^} % 08|4 BadToken
 int b(x, x, x, x, x, x, x, x, x) ; data: b = 1, 2 ;|4 TooLarge
 # one slab is in its limit, and two records of it aren't
 byte a(t, h, h), b(t) ; data: b = 1, 2 ;|4 TooLarge
+byte a(t, h, e), b(t) ; data: b = 1, 2, 3 ;|4 TooLarge
 ",
     ..WHOLE
 };

@@ -1,5 +1,6 @@
 //! The statements and the tokens of a text.
 
+use crate::parsing::{halves, push_word};
 use cdl_statements::{CdlKind, Cutter};
 use cdl_tokens::{Scanner, Token, TokenKind};
 use cdl_values::ReadError;
@@ -7,30 +8,71 @@ use nc_base::Version;
 use std::alloc::{AllocError, Global};
 use std::test::*;
 
-/// Returns true if the statements of the text have these numbers of tokens, and none comes after the last.
-fn has_statements(alloc: Global, text: &str, lens: &[usize]) -> Result<bool, AllocError> {
-    let mut cutter = Cutter::new(text.as_bytes(), Version::Cdf1);
+/// Texts, and how many tokens each of their statements has.
+const STATEMENTS: &[u8] = br#"
+|1
+netcdf t|1 1
+netcdf t {|1 1
+netcdf t { x|1 1 1
+netcdf t { x }|1 2 1
+netcdf t {} y|1 1 1 1
+netcdf t { } }|1 1 1 1
+netcdf t { x = 3 ; } y|1 4 1 1 1
+netcdf t { ; ; }|1 1 1 1 1
+netcdf t { ; x ; }|1 1 2 1 1
+netcdf t { } a ; } b|1 1 4 1
+x ; netcdf t {|2 3 1
+# the mark of a section stands by itself where a statement may begin
+netcdf t { dimensions: x = 3 }|1 2 4 1
+netcdf t {dimensions: x = 3 ; variables:data:}|1 2 4 2 2 1 1
+netcdf t {dimensions x ; data }|1 3 2 1
+netcdf t { data|1 1 1
+netcdf t { data:|1 2 1
+netcdf t { \data : x ;|1 4 1
+netcdf t { x data : ;|1 4 1
+netcdf t { dimension : ;|1 3 1
+netcdf t { : data = 1 ; a : b|1 5 3 1
+netcdf t { data ; x|1 2 1 1
+netcdf t { data data : x ;|1 5 1
+netcdf t { data } x ;|1 4 1
+data: x = 1, 2; ; }}|2 6 1 1 1 1
+# tokens of no other kind end a statement, or stand by themselves
+netcdf t { = x ; y ;|1 3 2 1
+netcdf t { ( x ; y ;|1 3 2 1
+netcdf t { = : x ;|1 4 1
+netcdf t { data 5 : x ;|1 5 1
+netcdf t { 5 : x ;|1 4 1
+netcdf t { "data" : x ;|1 4 1
+netcdf t { @ : x ;|1 4 1
+netcdf t { data @ : x ;|1 5 1
+"#;
+
+/// How many tokens each statement of the text has, and `more` if one comes after the last.
+fn statements_said(alloc: Global, text: &[u8]) -> Result<String, AllocError> {
+    let mut cutter = Cutter::new(text, Version::Cdf1);
     let mut tokens = Vec::new(alloc);
-    for len in lens {
-        if !cutter.next(&mut tokens)? || tokens.len() != *len {
-            return Ok(false);
+    let mut said = String::new(alloc);
+    // each has a byte, but for the end of the text
+    for _ in 0..=text.len() {
+        if !cutter.next(&mut tokens)? {
+            break;
         }
+        let len = format!(in alloc; "{}", tokens.len())?;
+        push_word(&mut said, len.as_str())?;
     }
-    Ok(!cutter.next(&mut tokens)? && !cutter.next(&mut tokens)? && tokens.is_empty())
+    if cutter.next(&mut tokens)? || cutter.next(&mut tokens)? || !tokens.is_empty() {
+        push_word(&mut said, "more")?;
+    }
+    Ok(said)
 }
 
 #[test]
 fn texts_are_cut_into_statements(rt: HostRuntime) -> Result<(), AllocError> {
-    static ROWS: &[(&str, &[usize])] = &[
-        ("netcdf t { x = 3 ; } y", &[1, 4, 1, 1, 1]),
-        ("netcdf t {} y", &[1, 1, 1, 1]),
-        ("netcdf t { dimensions: x = 3 }", &[1, 2, 4, 1]),
-        ("netcdf t", &[1, 1]),
-        ("", &[1]),
-        ("data: x = 1, 2; ; }}", &[2, 6, 1, 1, 1, 1]),
-    ];
-    for (text, lens) in ROWS {
-        assert!(rt; has_statements(rt.alloc(), *text, *lens)?, "{text}");
+    for row in STATEMENTS.split(|byte| *byte == b'\n') {
+        if let Some((text, want)) = halves(&rt, row) {
+            let found = statements_said(rt.alloc(), text)?;
+            assert!(rt; found.as_bytes() == want, "{found}: {row:?}");
+        }
     }
     Ok(())
 }

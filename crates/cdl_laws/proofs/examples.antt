@@ -1,9 +1,0 @@
-mod Bytes
-mod Declarable
-mod Dumps
-mod Files
-mod Meanings
-mod Misplaced
-mod Refused
-mod Tokens
-mod Written
