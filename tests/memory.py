@@ -152,8 +152,8 @@ def fields(version):
 BESIDE_OTHERS = 1_000
 # the fields after whose count zeros can't go on
 LISTS = {"dimensions", "attributes", "variables", "attributes of a variable"}
-# the most bytes that a dump may ask for, whatever the count is (79,694 were measured, 69,632 of them for buffers)
-HOSTILE = 82_000
+# the most bytes that a dump may ask for, whatever the count is (83,790 were measured, 73,728 of them for buffers)
+HOSTILE = 86_000
 # the same of making a file, whatever the lengths of its dimensions are (77,124 were measured)
 LENGTHS = 80_000
 
