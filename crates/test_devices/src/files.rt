@@ -70,6 +70,8 @@ fn reads_of_a_file_give_its_bytes(rt: HostRuntime) -> Result<(), Fail> {
     let mut ahead = FileSource::open(&rt, path)?;
     let mut files = DirectFiles::new(&rt);
     let mut direct = files.open(path)?;
+    // a file in the place of a folder: a reason that has no variant of its own
+    expect_no_file(&rt, "devices_files.bin/a.nc", OpenFailed::Other);
     fs::remove_file(&rt, path)?;
     assert!(rt; ahead.len() == 200000 && direct.len() == 200000);
     expect_bytes(&rt, &mut ahead, bytes.as_slice());
