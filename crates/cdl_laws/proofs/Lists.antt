@@ -3,7 +3,7 @@ use Rattle.std.proofs.Common.{ℕ, ◌*◌, List, [], ◌∷◌, arith, ◌++◌
 use Rattle.std.specs.List.{list_all, prefix_len}
 use Rattle.cdl_statements.proofs.Each.{Each, each_of}
 use Rattle.cdl_statements.proofs.Meanings.{IsByte}
-use Rattle.nc_base.specs.Bytes.{AreBytes}
+use Rattle.nc_types.specs.Bytes.{AreBytes}
 use Rattle.std.proofs.lemmas.Grind.{get_or_default_zero}
 use Rattle.nc_base.proofs.Tests.{and_left, and_right}
 

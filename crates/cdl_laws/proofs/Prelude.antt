@@ -32,33 +32,34 @@ unfoldable pub use Rattle.cdl_tokens.specs.Scan.{scan, len_until, word_len}
 pub use Rattle.cdl_tokens.specs.Tokens.{token_at, tokens}
 unfoldable pub use Rattle.cdl_tokens.specs.Tokens.{tokens_at}
 pub use Rattle.cdl_tokens.specs.declared.{scan.Scanned.Scanned, token.Token.Token, token.TokenKind.TokenKind}
-pub use Rattle.nc_base.specs.Bytes.{AreBytes}
-unfoldable pub use Rattle.nc_base.specs.Bytes.{concat_parts}
+pub use Rattle.nc_types.specs.Bytes.{AreBytes}
+unfoldable pub use Rattle.nc_types.specs.Bytes.{concat_parts}
 pub use Rattle.nc_base.specs.Dump.{DataText, variables_text, VariableValues, Options, shown_data, dump_text, has_name, has_values, is_selected, selection_of, shown_data_text, unknown, with_variable, whole}
 pub use Rattle.nc_base.specs.Datasets.{values_in_dataset}
 unfoldable pub use Rattle.nc_base.specs.Dump.{closing_word, data_word}
-pub use Rattle.nc_base.specs.Escapes.{escaped_in_name, escaped_in_string, is_plain, octal_escape, reserved_words}
-unfoldable pub use Rattle.nc_base.specs.Escapes.{escaped_name, escaped_text, is_reserved}
+pub use Rattle.nc_types.specs.Escapes.{escaped_in_name, escaped_in_string, is_plain, octal_escape, reserved_words}
+unfoldable pub use Rattle.nc_types.specs.Escapes.{escaped_name, escaped_text, is_reserved}
 pub use Rattle.nc_base.specs.Fill.{is_fill_att}
 unfoldable pub use Rattle.nc_base.specs.Fill.{fill_value}
 pub use Rattle.nc_base.specs.HeadText.{att_text, broken_text, dim_name, joined, without_trailing_nuls}
 unfoldable pub use Rattle.nc_base.specs.HeadText.{att_line, att_lines, chars_text, currently_word, dim_len_text, dim_line, dim_lines, dimensions_word, dims_text, gatts_text, global_word, head_text, netcdf_word, numbers_text, shape_text, string_break, unlimited_word, var_lines, variables_word, vars_text}
 pub use Rattle.nc_base.specs.Headers.{AreArrays, AreDimids, IsArray, IsDimid, IsGood, IsSoundAtt, IsSoundDim, IsSoundVar, bare_var}
 pub use Rattle.nc_base.specs.Sizes.{has_record_dim, value_count, is_record_var, padded_size, product, record_size_of, record_vars, slab_count, slab_lens}
-pub use Rattle.nc_base.specs.Names.{IsName, ends_with_space, has_name_bytes, may_begin_name, may_follow_in_name}
+pub use Rattle.nc_types.specs.Names.{IsName, ends_with_space, has_name_bytes, may_begin_name, may_follow_in_name}
 pub use Rattle.nc_base.specs.NumberLaws.{IsInRange}
 pub use Rattle.nc_base.specs.Numbers.{bytes_of_number, number_of, numbers_from}
 unfoldable pub use Rattle.nc_base.specs.Numbers.{numbers}
 pub use Rattle.nc_base.specs.Sayable.{AreDistinct, AreSayableAtts, HasSomeNumber, IsSayable, IsSayableVar, trimmed, trimmed_att, trimmed_header, trimmed_var}
-pub use Rattle.nc_base.specs.Types.{default_fill_of, code_of, number_suffix, size_of, type_word}
+pub use Rattle.nc_types.specs.Types.{default_fill_of, code_of, number_suffix, size_of, type_word}
 pub use Rattle.nc_base.specs.ValueText.{Look, char_lead, is_char, number_lead, number_text, row_len}
 unfoldable pub use Rattle.nc_base.specs.ValueText.{variable_closing, look_of, number_piece, variable_opening, variable_text}
 pub use Rattle.nc_base.specs.code.LaterPieces.{is_nul}
 unfoldable pub use Rattle.nc_base.specs.code.LaterPieces.{piece, pieces}
-pub use Rattle.nc_base.specs.Versions.{count_limit, has_type}
-pub use Rattle.nc_base.specs.declared.{dataset.Dataset.Dataset, header.Att.Att, header.Dim.Dim, header.Header.Header, header.Var.Var, nc_type.NcType.NcType, version.Version.Version}
+pub use Rattle.nc_types.specs.Versions.{count_limit, has_type}
+pub use Rattle.nc_base.specs.declared.{dataset.Dataset.Dataset, header.Att.Att, header.Dim.Dim, header.Header.Header, header.Var.Var}
+pub use Rattle.nc_types.specs.declared.{nc_type.NcType.NcType, version.Version.Version}
 pub use Rattle.nc_base.specs.declared.header.NumRecs.TheVariants.{Known}
-pub use Rattle.nc_base.specs.declared.nc_type.NcType.TheVariants.{Char, Int}
+pub use Rattle.nc_types.specs.declared.nc_type.NcType.TheVariants.{Char, Int}
 pub use Rattle.std.proofs.Math.Nat.{div-eq_of_lt, mod-eq_of_lt, mul-add-div, mul-div_cancel}
 pub use Rattle.std.proofs.Math.Seq.{drop-append_seam, take-append_seam, take-length}
 pub use Rattle.std.proofs.lemmas.Bool.{eqb-true, false≢true, le-leb, lt-ltb}

@@ -1,6 +1,6 @@
 -- What the statements of a text of bytes say: the characters of their constants are bytes, and the types of their numbers are the version's.
 use Rattle.cdl_laws.proofs.Prelude.{◌≡◌, Bool, true, arith, ◌&&◌, find, and_left, and_right, NcType, Int, ok_or, is_word, type_word, type_of, CdlKind, OkIs, has_type, to_ascii_lowercase, type_of_suffix, Parts, TypedNumber, in_base, with_sign, parts, numeral, Number, Underscore, if◌then◌else◌, Option, None, Some, ℕ, ◌-◌, false, List, [], ◌∷◌, zero, suc, drop, map, rules, option_map, both, if_so, Version, character, unescape_at, or_zero, Lexeme, name_of, Value, Characters, at_end, after_member, constant, constants, Each, each_drop, each_take, IsByte, lexeme, Statement, Attribute, Listed, attribute_or_mark, assigned, other_statement, section_mark, shape, Section, Unopened, Globals, Dimensions, Variables, Values, Closed, Ended, Token}
-use Rattle.nc_base.specs.Types.{all_types}
+use Rattle.nc_types.specs.Types.{all_types}
 use Rattle.cdl_tokens.specs.Numerals.{has_suffix}
 
 abbrev pub SomeIs : {A : Type 0} → (A → Type 0) → Option A → Type 0

@@ -1,7 +1,8 @@
 -- Law. What a text means is a good dataset, and a text can declare it but for the fill values of characters.
 use Rattle.std.specs.Prelude.{◌≡◌, true, [], map, All, Ok}
-use Rattle.nc_base.specs.Bytes.{Bytes, AreBytes}
-use Rattle.nc_base.specs.declared.{dataset.Dataset.Dataset, header.Dim.Dim, header.Var.Var, header.NumRecs.TheVariants.Known, version.Version.Version}
+use Rattle.nc_types.specs.Bytes.{Bytes, AreBytes}
+use Rattle.nc_base.specs.declared.{dataset.Dataset.Dataset, header.Dim.Dim, header.Var.Var, header.NumRecs.TheVariants.Known}
+use Rattle.nc_types.specs.declared.{version.Version.Version}
 use Rattle.nc_base.specs.Fill.{fill_value}
 use Rattle.nc_base.specs.Headers.{IsGood}
 use Rattle.nc_base.specs.Sayable.{AreDistinct, AreSayableAtts, IsSayable, trimmed_var}

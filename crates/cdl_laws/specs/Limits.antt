@@ -1,11 +1,12 @@
 -- Law. Where no statement of a text has a fault, only a limit keeps the text from meaning a dataset.
 use Rattle.std.specs.Prelude.{ℕ, ◌≡◌, ◌*◌, ◌/◌, ◌<◌, ◌≤◌, true, List, length, All, Ok}
-use Rattle.nc_base.specs.Bytes.{Bytes, AreBytes}
-use Rattle.nc_base.specs.declared.{header.Att.Att, header.Dim.Dim, header.Header.Header, header.Var.Var, version.Version.Version}
+use Rattle.nc_types.specs.Bytes.{Bytes, AreBytes}
+use Rattle.nc_base.specs.declared.{header.Att.Att, header.Dim.Dim, header.Header.Header, header.Var.Var}
+use Rattle.nc_types.specs.declared.{version.Version.Version}
 use Rattle.nc_base.specs.GeneratedFile.{known_records}
 use Rattle.nc_base.specs.Sizes.{value_count, slab_size, record_size, slab_limit, record_limit, array_limit}
-use Rattle.nc_base.specs.Types.{size_of}
-use Rattle.nc_base.specs.Versions.{count_limit}
+use Rattle.nc_types.specs.Types.{size_of}
+use Rattle.nc_types.specs.Versions.{count_limit}
 use Rattle.cdl_statements.specs.Meaning.{dataset_of, empty, header_of, meaning, run}
 use Rattle.cdl_statements.specs.Pieces.{statements}
 use Rattle.cdl_statements.specs.SoundHeaders.{is_sound}

@@ -1,14 +1,15 @@
 -- Law. A dump is cut into the statements that it was put together from.
 use Rattle.std.specs.Prelude.{◌≡◌, ℕ, ℤ, pos, ◌==◌, if◌then◌else◌, true, List, [], ◌∷◌, ◌++◌, All, map, codes, slice_get, Option, None, Some, Ok}
-use Rattle.nc_base.specs.Bytes.{Bytes, concat_parts}
-use Rattle.nc_base.specs.declared.{dataset.Dataset.Dataset, header.Att.Att, header.Dim.Dim, header.NumRecs.TheVariants.Known, header.Var.Var, version.Version.Version}
+use Rattle.nc_types.specs.Bytes.{Bytes, concat_parts}
+use Rattle.nc_base.specs.declared.{dataset.Dataset.Dataset, header.Att.Att, header.Dim.Dim, header.NumRecs.TheVariants.Known, header.Var.Var}
+use Rattle.nc_types.specs.declared.{version.Version.Version}
 use Rattle.nc_base.specs.Dump.{has_values}
 use Rattle.nc_base.specs.Datasets.{values_in_dataset}
-use Rattle.nc_base.specs.Escapes.{escaped_name}
+use Rattle.nc_types.specs.Escapes.{escaped_name}
 use Rattle.nc_base.specs.HeadText.{netcdf_word, dimensions_word, variables_word, global_word, dim_line, shape_text, var_lines, att_line, att_lines}
-use Rattle.nc_base.specs.Names.{IsName}
+use Rattle.nc_types.specs.Names.{IsName}
 use Rattle.nc_base.specs.Sayable.{IsSayable, trimmed_att}
-use Rattle.nc_base.specs.Types.{type_word}
+use Rattle.nc_types.specs.Types.{type_word}
 use Rattle.nc_base.specs.ValueText.{look_of, variable_text}
 use Rattle.cdl_statements.specs.declared.section.Section.{Section}
 use Rattle.cdl_statements.specs.declared.section.Section.TheVariants.{Unopened, Globals, Dimensions, Variables, Values, Closed}

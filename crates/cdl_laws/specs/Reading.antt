@@ -1,6 +1,6 @@
 -- Definition. The tokens without their places, for texts that are put together, and the pieces that they are cut into.
 use Rattle.std.specs.Prelude.{ℕ, zero, suc, Bool, true, false, List, [], ◌∷◌, ◌-◌, ◌&&◌, take, Option, None, Some, is_none}
-use Rattle.nc_base.specs.Bytes.{Bytes}
+use Rattle.nc_types.specs.Bytes.{Bytes}
 use Rattle.cdl_tokens.specs.Scan.{scan}
 use Rattle.cdl_statements.specs.Lexemes.{Lexeme}
 use Rattle.cdl_statements.specs.Pieces.{pieces_after, role}

@@ -1,10 +1,10 @@
 -- Law. The text of a dataset is read back, so no two datasets have one text.
 use Rattle.std.specs.Prelude.{◌≡◌, false, None, Ok}
-use Rattle.nc_base.specs.Bytes.{Bytes}
+use Rattle.nc_types.specs.Bytes.{Bytes}
 use Rattle.nc_base.specs.declared.dataset.Dataset.{Dataset}
 use Rattle.nc_base.specs.Dump.{Options, whole}
 use Rattle.nc_base.specs.Datasets.{IsText}
-use Rattle.nc_base.specs.Names.{IsName}
+use Rattle.nc_types.specs.Names.{IsName}
 use Rattle.nc_base.specs.Sayable.{IsSayable, trimmed}
 use Rattle.cdl_statements.specs.Meaning.{meaning}
 

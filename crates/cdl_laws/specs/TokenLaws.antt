@@ -1,14 +1,14 @@
 -- Law. Names, strings and numbers are read back, each as one token; and the strings of a text stand for bytes.
 use Rattle.std.specs.Prelude.{◌≡◌, ◌||◌, true, ◌∷◌, ℕ, ℤ, Bool, true, false, ◌++◌, length, All, slice_index, codes, map, None, Some}
 use Rattle.std.specs.Fmt.{signed_decimal}
-use Rattle.nc_base.specs.Bytes.{Bytes}
-use Rattle.nc_base.specs.declared.{nc_type.NcType.NcType, nc_type.NcType.TheVariants.Int, version.Version.Version}
-use Rattle.nc_base.specs.Escapes.{escaped_name, escaped_text, is_reserved}
-use Rattle.nc_base.specs.Names.{IsName}
+use Rattle.nc_types.specs.Bytes.{Bytes}
+use Rattle.nc_types.specs.declared.{nc_type.NcType.NcType, nc_type.NcType.TheVariants.Int, version.Version.Version}
+use Rattle.nc_types.specs.Escapes.{escaped_name, escaped_text, is_reserved}
+use Rattle.nc_types.specs.Names.{IsName}
 use Rattle.nc_base.specs.NumberLaws.{IsInRange}
-use Rattle.nc_base.specs.Types.{number_suffix}
+use Rattle.nc_types.specs.Types.{number_suffix}
 use Rattle.nc_base.specs.ValueText.{is_char}
-use Rattle.nc_base.specs.Versions.{has_type}
+use Rattle.nc_types.specs.Versions.{has_type}
 use Rattle.cdl_tokens.specs.Bytes.{is_blank, is_mark_byte, goes_on_word, goes_on_number, is_escape}
 use Rattle.cdl_tokens.specs.Escapes.{inner, string_value, unescape, word_value}
 use Rattle.cdl_tokens.specs.Scan.{scan, token}

@@ -1,7 +1,8 @@
 -- Law. Datasets without the NULs at the end of their attributes: what of them a second text keeps, and when their fill values change.
 use Rattle.std.specs.Prelude.{◌≡◌, ◌↔◌, Bool, true, false, ◌&&◌, ◌==◌, nat_lt, length, find, All, None, Some, Ok}
-use Rattle.nc_base.specs.Bytes.{Bytes, AreBytes}
-use Rattle.nc_base.specs.declared.{dataset.Dataset.Dataset, header.Att.Att, header.Var.Var, version.Version.Version}
+use Rattle.nc_types.specs.Bytes.{Bytes, AreBytes}
+use Rattle.nc_base.specs.declared.{dataset.Dataset.Dataset, header.Att.Att, header.Var.Var}
+use Rattle.nc_types.specs.declared.{version.Version.Version}
 use Rattle.nc_base.specs.Dump.{Options, whole}
 use Rattle.nc_base.specs.Datasets.{IsText}
 use Rattle.nc_base.specs.Fill.{fill_value, is_fill_att}

@@ -4,7 +4,7 @@
 //! values under a valid name. A "good" dataset (`IsGood`) has begins of 0, and a file can hold it unless a variable would begin at too
 //! great an offset. The NULs at the end of attributes are those of attributes of characters.
 
-ghost use Rattle.nc_base.specs.declared.version.Version.{Version};
+ghost use Rattle.nc_types.specs.declared.version.Version.{Version};
 ghost use Rattle.cdl_laws.specs.Goods.{MeaningsAreGood, MeaningsAreNearlySayable, NearlyIsSayable};
 ghost use Rattle.cdl_laws.specs.Limits.{LimitsMakeMeant, LimitsMakeSound};
 ghost use Rattle.cdl_laws.specs.PieceLaws.{PiecesAreStatements, MarksReadBack, DimensionsReadBack, DeclarationsReadBack, AttributesReadBack, GlobalAttributesReadBack, DataReadsBack};

@@ -1,6 +1,6 @@
 -- The length of a dimension, by a number of any size.
 use Rattle.cdl_parse.proofs.Prelude.{◌≡◌, ℕ, suc, Bool, true, false, List, refl, arith, pos, None, Some, nat_lt, nat_le, ◌-◌, if◌then◌else◌, Dim, Version, Parts, number, signed, NcType, dim_len_of}
-use Rattle.nc_base.specs.Versions.{count_limit}
+use Rattle.nc_types.specs.Versions.{count_limit}
 use Rattle.cdl_tokens.specs.code.Magnitudes.{held}
 use Rattle.cdl_parse.specs.code.DimensionLengths.{number_len}
 

@@ -51,10 +51,11 @@ pub use Rattle.cdl_values.specs.declared.read_error.ReadError.TheVariants.{Fault
 unfoldable pub use Rattle.nc_base.specs.Fill.{fill_value}
 pub use Rattle.nc_base.specs.Headers.{AreDimids, IsSound, IsSoundVar}
 pub use Rattle.nc_base.specs.Sizes.{array_limit, is_record_var, slab_count, slab_limit, slab_size}
-pub use Rattle.nc_base.specs.Names.{is_name}
+pub use Rattle.nc_types.specs.Names.{is_name}
 pub use Rattle.nc_base.specs.Numbers.{bytes_of_number}
 pub use Rattle.nc_base.specs.code.OwedValues.{whole_array, whole_arrays}
-pub use Rattle.nc_base.specs.declared.{header.Att.Att, header.Dim.Dim, header.Header.Header, header.NumRecs.TheVariants.Known, header.Var.Var, nc_type.NcType.NcType, version.Version.Version}
+pub use Rattle.nc_base.specs.declared.{header.Att.Att, header.Dim.Dim, header.Header.Header, header.NumRecs.TheVariants.Known, header.Var.Var}
+pub use Rattle.nc_types.specs.declared.{nc_type.NcType.NcType, version.Version.Version}
 pub use Rattle.std.proofs.lemmas.Bool.{false≢true, le-leb}
 pub use Rattle.std.proofs.lemmas.List.{length-map, set-get_or}
 pub use Rattle.std.proofs.lemmas.List.Elements.{All-cons, All-head, All-nil, All-tail}

@@ -1,7 +1,7 @@
 -- What is listed keeps its limits where its slabs, its records and the header do.
 use Rattle.cdl_parse.proofs.Prelude.{◌≡◌, ℕ, suc, ◌*◌, ◌/◌, ◌<◌, ◌≤◌, Bool, true, false, List, [], ◌∷◌, length, map, refl, sym, ap, ◌∙◌, arith, All, ◌&&◌, if◌then◌else◌, max, nat_le, Option, None, Some, rules, flat_map, list_all, All-cons, All-head, All-nil, All-tail, Dim, Var, AreDimids, bytes_of_number, is_record_var, slab_count, slab_size, slab_limit, array_limit, is_within_limits, records_in, listed_values, Draft, AllList, AreShaped, records_for, records_kept, records_within, with_all, RecordNeeds, le-leb, some_count, some_product, length-numbers, some_size}
 use Rattle.std.proofs.Math.Nat.{mul-div_cancel, mul-le-mul_left, mul_comm, mul_right_comm}
-use Rattle.nc_base.specs.Types.{size_of}
+use Rattle.nc_types.specs.Types.{size_of}
 
 -- ---- what is listed, as bytes
 

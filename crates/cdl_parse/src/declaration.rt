@@ -9,8 +9,7 @@ ghost use Rattle.cdl_statements.specs.code.Views.{lexeme_of};
 ghost use Rattle.cdl_statements.specs.declared.due.Due.TheVariants.{VariableName};
 ghost use Rattle.cdl_statements.specs.State.{type_of};
 ghost use Rattle.cdl_values.specs.code.Answers.{GivesRead, Leaves};
-ghost use Rattle.cdl_parse.specs.code.Declarations.{added, declared_by, first_with_word, is_open_after, next_dimid, with_begun};
-ghost use Rattle.cdl_parse.specs.code.Declarations.{BeginsVariable, PassesMark, ReadsDimension, ReadsToken};
+ghost use Rattle.cdl_parse.specs.code.Declarations.{added, declared_by, first_with_word, is_open_after, next_dimid, with_begun, BeginsVariable, PassesMark, ReadsDimension, ReadsToken};
 
 use crate::dimensions::Dimensions;
 use crate::taken_name::duplicate_name_or;

@@ -9,4 +9,6 @@ pub mod CharRows
 pub mod Openings
 pub mod Takes
 pub mod Batches
+pub mod ByteNumbers
+pub mod Digits
 pub mod Prelude

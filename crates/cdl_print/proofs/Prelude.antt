@@ -14,21 +14,21 @@ pub use Rattle.devices.specs.code.SinkWrites.{Written}
 unfoldable pub use Rattle.devices.specs.Sinks.{append, is_transparent}
 pub use Rattle.nc_base.proofs.ValueLaws.{column-broken, column-flat, held_first, held_nul, held_other, held_untrimmed, later-append, later_none, later_one, number_flat, place-add, prefix-append, prefix_nil, length-numbers_from}
 pub use Rattle.nc_base.proofs.CharacterRows.{escaped-append}
-unfoldable pub use Rattle.nc_base.specs.Bytes.{concat_parts}
-pub use Rattle.nc_base.specs.Escapes.{begins_with_digit_or_mark, escaped_in_name, escaped_in_string}
-pub use Rattle.nc_base.specs.code.Quoted.{is_literal, escaped_in, stands_for_itself}
-unfoldable pub use Rattle.nc_base.specs.Escapes.{escaped_name, escaped_text, is_reserved}
+unfoldable pub use Rattle.nc_types.specs.Bytes.{concat_parts}
+pub use Rattle.nc_types.specs.Escapes.{begins_with_digit_or_mark, escaped_in_name, escaped_in_string}
+pub use Rattle.nc_types.specs.code.Quoted.{is_literal, escaped_in, stands_for_itself}
+unfoldable pub use Rattle.nc_types.specs.Escapes.{escaped_name, escaped_text, is_reserved}
 pub use Rattle.nc_base.specs.HeadText.{broken_text, dim_name, joined, without_trailing_nuls}
 unfoldable pub use Rattle.nc_base.specs.HeadText.{att_line, att_lines, dim_len_text, dim_line, dim_lines, numbers_text, string_break, var_lines}
 pub use Rattle.nc_base.specs.Numbers.{number_of, numbers_from}
 unfoldable pub use Rattle.nc_base.specs.Numbers.{numbers}
-pub use Rattle.nc_base.specs.Types.{number_suffix, size_of}
+pub use Rattle.nc_types.specs.Types.{number_suffix, size_of}
 pub use Rattle.nc_base.specs.ValueText.{Look, begins_row, char_lead, column, is_char, line_break, number_lead, number_text}
 unfoldable pub use Rattle.nc_base.specs.ValueText.{look_of, number_piece, variable_opening, variable_prefix}
 pub use Rattle.nc_base.specs.code.LaterPieces.{char_text, held, later_pieces}
 unfoldable pub use Rattle.nc_base.specs.code.LaterPieces.{char_piece, piece, pieces}
-pub use Rattle.nc_base.specs.declared.nc_type.NcType.{NcType}
-pub use Rattle.nc_base.specs.declared.nc_type.NcType.TheVariants.{Char}
+pub use Rattle.nc_types.specs.declared.nc_type.NcType.{NcType}
+pub use Rattle.nc_types.specs.declared.nc_type.NcType.TheVariants.{Char}
 pub use Rattle.std.proofs.Math.Nat.{div-eq-sub-div, div-eq_of_lt, div-mul-le_self, le_of_mul-le-mul_right, mul-div_cancel, mul-le-mul_right, zero-mod}
 pub use Rattle.std.proofs.lemmas.Bool.{OnTrue_at, OnTrue_from, cond-false, cond-true, false≢true, lt-ltb, agree_below, agree_below_at}
 pub use Rattle.std.proofs.lemmas.Bool.Decides.{nat_tests}

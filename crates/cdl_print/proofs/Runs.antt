@@ -1,6 +1,6 @@
 -- Names and strings that are written a few bytes at a time, and the lines of a string.
 use Rattle.cdl_print.proofs.Prelude.{◌≡◌, ℕ, ◌+◌, ◌<◌, ◌≤◌, ◌==◌, Bool, true, false, cond, List, [], ◌∷◌, ◌++◌, length, take, drop, refl, sym, ap, ◌∙◌, arith, rules, suc, min, append_assoc, if◌then◌else◌, ap₂, ◌&&◌, not, nat_lt, position, Some, None, get_or, common_steps, flat_map-append, prefix_len-le-length, append-nil, take-append-drop, concat_parts, broken_text, string_break, nat_tests, flat_map, list_all, position_or_len, escaped_name, is_reserved, escaped_text, escaped_in_string, is_literal, escaped_in, stands_for_itself, line_len, line_text, take-add, take-append_seam, list_all-append}
-use Rattle.nc_base.specs.declared.escape.Quoting.{Quoting}
+use Rattle.nc_types.specs.declared.escape.Quoting.{Quoting}
 
 pub flat_map_parts : (f : ℕ → List ℕ) (n : ℕ) (xs prefix back : List ℕ) → prefix ≡ take n xs → back ≡ drop n xs → flat_map f xs ≡ flat_map f prefix ++ flat_map f back
 flat_map_parts f n xs prefix back e d =

@@ -4,3 +4,4 @@ pub mod Leads
 pub mod Printing
 pub mod Printer
 pub mod Fills
+pub mod NumberTexts

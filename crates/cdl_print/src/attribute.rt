@@ -1,7 +1,7 @@
 //! Attributes as CDL writes them.
 
 ghost use Rattle.std.specs.Prelude.{◌≡◌};
-ghost use Rattle.nc_base.specs.Escapes.{escaped_name};
+ghost use Rattle.nc_types.specs.Escapes.{escaped_name};
 ghost use Rattle.nc_base.specs.HeadText.{att_line, att_lines, att_text, chars_text};
 ghost use Rattle.devices.specs.code.SinkWrites.{Wrote};
 ghost use Rattle.cdl_print.specs.code.Pieces.{att_prefix};

@@ -1,7 +1,7 @@
 //! The characters of a variable as CDL writes them.
 
 ghost use Rattle.std.specs.Prelude.{◌≡◌, ◌+◌, ◌++◌, ◌-◌, ◌<◌, ◌≤◌, ◌==◌, ◌^◌, true, length, replicate, if◌then◌else◌, OnOk};
-ghost use Rattle.nc_base.specs.Escapes.{escaped_text};
+ghost use Rattle.nc_types.specs.Escapes.{escaped_text};
 ghost use Rattle.nc_base.specs.ValueText.{is_char};
 ghost use Rattle.devices.specs.code.SinkWrites.{Wrote};
 ghost use Rattle.cdl_print.specs.code.Leads.{look_at, next_char_lead};
@@ -145,7 +145,7 @@ fn put_shown_with_lead<W: Sink>(
 
 /// Writes the `held_nuls` NULs that were held back, and then the characters of `shown` with their escapes. Writes nothing if `shown` is
 /// empty: the NULs are still held back then. Errs if the sink fails.
-#[tactic(auto, using(devices::proofs::Writes::writes), unfolding(crate::specs::code::Printing::part_text, nc_base::specs::Escapes::escaped_text))]
+#[tactic(auto, using(devices::proofs::Writes::writes), unfolding(crate::specs::code::Printing::part_text, nc_types::specs::Escapes::escaped_text))]
 fn put_shown<W: Sink>(sink: &mut W, held_nuls: u128, shown: &[u8]) -> Result<(), WriteFailed>
     ensures { Wrote W.view sink.old sink.new (part_text held_nuls shown.now) result }
 {

@@ -2,11 +2,11 @@
 
 ghost use Rattle.std.specs.Prelude.{◌≡◌, ◌+◌, ◌*◌, ◌≤◌, length, take, true, ◌++◌};
 ghost use Rattle.std.specs.List.{flat_map, list_all};
-ghost use Rattle.nc_base.specs.code.Quoted.{escaped_in, is_literal, stands_for_itself, written};
+ghost use Rattle.nc_types.specs.code.Quoted.{escaped_in, is_literal, stands_for_itself, written};
 ghost use Rattle.devices.specs.code.SinkWrites.{Wrote};
 
 use crate::literal::{BLOCK, LANES, is_literal_block, literal_run};
-use cdl_number_text::{put_byte, put_bytes};
+use crate::put::{put_byte, put_bytes};
 use devices::{Sink, WriteFailed, put};
 use nc_base::{Escape, Quoting};
 use std::simd::prelude::*;

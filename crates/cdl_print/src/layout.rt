@@ -10,8 +10,8 @@ ghost use Rattle.cdl_print.specs.code.Printing.{shown};
 
 use crate::lead::{Lead, lead_in_row};
 use crate::progress::Progress;
+use crate::put::put_bytes;
 use crate::trailing_nuls::without_trailing_nuls;
-use cdl_number_text::put_bytes;
 use nc_base::{
     Dim, Header, NcType, Var, dim_len, fill_of, is_record_var, prints_fill, value_count,
 };

@@ -3,7 +3,7 @@
 ghost use Rattle.std.specs.Prelude.{◌≡◌, ◌+◌, ◌++◌, ◌≤◌, length, take};
 ghost use Rattle.cdl_print.specs.code.Leads.{lead_bytes, lead_in_row, columns_left_after};
 
-use cdl_number_text::{put_bytes, put_comma};
+use crate::put::{put_bytes, put_comma};
 
 /// What stands before a number.
 #[derive(Clone, Copy)]

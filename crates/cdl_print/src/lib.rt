@@ -18,7 +18,9 @@
 #![tactic(auto)]
 
 mod attribute;
+mod byte_number;
 mod char_row;
+mod decimal;
 mod escaped;
 mod fixed_text;
 mod head;
@@ -33,6 +35,7 @@ mod opening;
 mod printed_fill;
 mod printer;
 mod progress;
+mod put;
 mod string;
 mod trailing_nuls;
 mod variable;

@@ -3,7 +3,7 @@
 ghost use Rattle.std.specs.Prelude.{◌≡◌, ◌≤◌, length, map, take, true};
 ghost use Rattle.std.specs.List.{list_all, prefix_len};
 ghost use Rattle.std.specs.Simd.Lanes.{mask_l};
-ghost use Rattle.nc_base.specs.code.Quoted.{is_literal};
+ghost use Rattle.nc_types.specs.code.Quoted.{is_literal};
 ghost use Rattle.cdl_print.specs.code.Pieces.{needs_escape};
 
 use std::simd::prelude::*;

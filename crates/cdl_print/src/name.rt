@@ -1,7 +1,7 @@
 //! Names as CDL writes them.
 
 ghost use Rattle.std.specs.Prelude.{◌≡◌, ◌||◌};
-ghost use Rattle.nc_base.specs.Escapes.{begins_with_digit_or_mark, escaped_name, is_reserved};
+ghost use Rattle.nc_types.specs.Escapes.{begins_with_digit_or_mark, escaped_name, is_reserved};
 ghost use Rattle.devices.specs.code.SinkWrites.{Wrote};
 ghost use Rattle.cdl_print.specs.code.Pieces.{prefix_escape};
 
@@ -17,7 +17,7 @@ use nc_base::{Quoting, begins_with_digit_or_mark, is_reserved};
 /// # Errors
 ///
 /// The sink failed. It took some prefix of the text.
-#[tactic(auto, using(devices::proofs::Writes::writes), unfolding(nc_base::specs::Escapes::escaped_name, crate::specs::code::Pieces::prefix_escape))]
+#[tactic(auto, using(devices::proofs::Writes::writes), unfolding(nc_types::specs::Escapes::escaped_name, crate::specs::code::Pieces::prefix_escape))]
 pub fn put_name<W: Sink>(sink: &mut W, name: &[u8]) -> Result<(), WriteFailed>
     ensures { Wrote W.view sink.old sink.new (escaped_name name.now) result }
 {

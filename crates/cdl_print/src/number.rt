@@ -2,11 +2,12 @@
 
 ghost use Rattle.std.specs.Prelude.{◌≡◌, ◌+◌, ◌++◌, ◌<◌, ◌≤◌, length, take};
 ghost use Rattle.nc_base.specs.HeadText.{numbers_text};
-ghost use Rattle.nc_base.specs.Types.{size_of};
+ghost use Rattle.nc_types.specs.Types.{size_of};
 ghost use Rattle.devices.specs.code.SinkWrites.{Wrote};
 ghost use Rattle.cdl_print.specs.code.Pieces.{number_text};
 
-use cdl_number_text::{decimal_len, put_byte, put_bytes, put_comma, put_decimal};
+use crate::decimal::{decimal_len, put_decimal};
+use crate::put::{put_byte, put_bytes, put_comma};
 use devices::{Sink, WriteFailed, put};
 use nc_base::{NcType, number_of};
 
@@ -53,7 +54,7 @@ fn gather_numbers<'a>(text: &mut [u8], ty: NcType, vals: &'a [u8]) -> (usize, &'
 /// Puts the number of the type `ty` that has the big-endian bytes `value` at the offset `at` of `text`, with the suffix of the type, and
 /// then a comma and a space unless `is_last`. Returns the offset at which they end. Needs a whole number in `value`, and room for 26 bytes
 /// in `text` ([`MOST`]).
-#[tactic(auto, unfolding(crate::specs::code::Pieces::number_text, nc_base::specs::Bytes::concat_parts))]
+#[tactic(auto, unfolding(crate::specs::code::Pieces::number_text, nc_types::specs::Bytes::concat_parts))]
 #[inline(always)]
 fn put_suffixed_number(text: &mut [u8], at: usize, ty: NcType, value: &[u8], is_last: bool) -> usize
     requires whole { length value.now ≡ size_of ty }

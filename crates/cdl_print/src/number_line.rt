@@ -3,18 +3,18 @@
 ghost use Rattle.std.specs.Prelude.{ℕ, ◌≡◌, ◌+◌, ◌*◌, ◌<◌, ◌≤◌, ◌^◌, codes, length, unsigned_abs};
 ghost use Rattle.std.specs.Fmt.{decimal, signed_decimal};
 ghost use Rattle.nc_base.specs.Numbers.{number_of, numbers};
-ghost use Rattle.nc_base.specs.Types.{size_of};
-ghost use Rattle.cdl_number_text.specs.code.NumberTexts.{IsByteNumber};
+ghost use Rattle.nc_types.specs.Types.{size_of};
+ghost use Rattle.cdl_print.specs.code.NumberTexts.{IsByteNumber};
 ghost use Rattle.cdl_print.specs.code.Fills.{IsFillOf};
 ghost use Rattle.cdl_print.specs.code.Leads.{lead_bytes, look_at, values};
 ghost use Rattle.cdl_print.specs.code.Printing.{columns_left_at_end, gap_at_end, PutAt, PutInRow, PutLine, PutNumber};
 
+use crate::byte_number::{byte_number_len, put_byte_number};
+use crate::decimal::{decimal_len, put_decimal, put_digits};
 use crate::layout::TextLayout;
 use crate::lead::{lead_in_row, put_lead};
 use crate::printed_fill::PrintedFill;
-use cdl_number_text::{
-    byte_number_len, decimal_len, put_byte, put_byte_number, put_comma, put_decimal, put_digits,
-};
+use crate::put::{put_byte, put_comma};
 use nc_base::{NcType, number_of};
 
 /// The last line of the text that is gathered in a buffer.

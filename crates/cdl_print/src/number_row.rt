@@ -1,16 +1,16 @@
 //! The numbers of a variable as CDL writes them.
 
 ghost use Rattle.std.specs.Prelude.{◌≡◌, ◌+◌, ◌*◌, ◌<◌, ◌≤◌, false, length, take, OnOk};
-ghost use Rattle.nc_base.specs.Types.{size_of};
+ghost use Rattle.nc_types.specs.Types.{size_of};
 ghost use Rattle.nc_base.specs.ValueText.{is_char};
 ghost use Rattle.cdl_print.specs.code.Leads.{values, AreWhole};
 ghost use Rattle.cdl_print.specs.code.Printing.{next, next_number, AreLeft, AreInRow, IsAfterNext, IsAfterNextNumber, PutAt, PutNext, WroteNext};
 
+use crate::decimal::{put_text, text_len};
 use crate::layout::TextLayout;
 use crate::lead::put_lead;
 use crate::number_line::{LastLine, gather_at_end};
 use crate::progress::{Progress, row_index_after};
-use cdl_number_text::{put_text, text_len};
 use devices::{Sink, WriteFailed, put};
 use nc_base::number_of;
 

@@ -1,7 +1,7 @@
 //! What stands before the values of a variable.
 
 ghost use Rattle.std.specs.Prelude.{◌≡◌, ◌-◌, ◌++◌, codes};
-ghost use Rattle.nc_base.specs.Escapes.{escaped_in_name, escaped_name};
+ghost use Rattle.nc_types.specs.Escapes.{escaped_in_name, escaped_name};
 ghost use Rattle.nc_base.specs.ValueText.{column};
 ghost use Rattle.devices.specs.code.SinkWrites.{Wrote};
 ghost use Rattle.cdl_print.specs.code.Leads.{LeavesColumns};

@@ -43,7 +43,7 @@ fn line_feed_offset(bytes: &[u8]) -> Option<usize>
 
 /// Writes a line of a string with its escapes. Unless `is_last`, then closes the string and opens it again on the next line of the dump.
 /// Errs if the sink fails.
-#[tactic(auto, using(devices::proofs::Writes::writes), unfolding(crate::specs::code::Pieces::line_text, nc_base::specs::Escapes::escaped_text, nc_base::specs::HeadText::string_break))]
+#[tactic(auto, using(devices::proofs::Writes::writes), unfolding(crate::specs::code::Pieces::line_text, nc_types::specs::Escapes::escaped_text, nc_base::specs::HeadText::string_break))]
 fn put_line<W: Sink>(sink: &mut W, line: &[u8], is_last: bool) -> Result<(), WriteFailed>
     ensures { Wrote W.view sink.old sink.new (line_text line.now is_last) result }
 {

@@ -1,8 +1,9 @@
 -- Shapes are sound, and no more is listed of a variable than it has values, unless it has records.
 use Rattle.cdl_statements.proofs.Prelude.{◌≡◌, ℕ, ◌-◌, ◌<◌, ◌≤◌, Bool, false, List, [], ◌∷◌, ◌++◌, length, map, refl, sym, subst, ap, ◌∙◌, append_assoc, arith, rules, ℤ, IfSome, position, Some, None, Result, Ok, replicate, drop, slice_index, Attribute, DeclareDimensions, DeclareVariables, Dimension, Lexeme, Listed, Statement, Value, Variable, Token, Draft, State, Takes, act, add_att, add_dim, add_dimid, add_value, add_var, change_named, change_variable, filled, takes_of, unless, values_listed, with_att, with_values, dim_len, is_record_shape, is_record_var, slab_count, CdlKind, BadName, AreDimids, IsDimid, ok_or, none_before}
 use Rattle.std.proofs.lemmas.List.{append-nil, length-append, length-replicate, length-map, map-append, get_or_append_left}
-use Rattle.nc_base.specs.declared.{header.Att.Att, header.Dim.Dim, header.Var.Var, nc_type.NcType.NcType, version.Version.Version}
-use Rattle.nc_base.specs.Names.{is_name}
+use Rattle.nc_base.specs.declared.{header.Att.Att, header.Dim.Dim, header.Var.Var}
+use Rattle.nc_types.specs.declared.{nc_type.NcType.NcType, version.Version.Version}
+use Rattle.nc_types.specs.Names.{is_name}
 use Rattle.cdl_statements.specs.Meaning.{listed_values, piece_read, run}
 use Rattle.cdl_statements.proofs.Each.{Each, each_drop, each_map, each_more}
 use Rattle.cdl_statements.proofs.Results.{OkIs, any_each, ok_found, ok_next, ok_then, ok_unless, ok_when, turns}

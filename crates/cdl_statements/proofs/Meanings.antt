@@ -1,7 +1,8 @@
 -- What a text means has a sound header, and arrays that are whole.
 use Rattle.cdl_statements.proofs.Prelude.{◌≡◌, ℕ, ◌*◌, ◌≤◌, ◌<◌, true, false, List, [], ◌∷◌, length, map, refl, subst, arith, suc, Bool, ℤ, Result, Ok, rules, if◌then◌else◌, Draft, State, filled, array_limit, is_record_var, slab_count, value_count, AreArrays, IsArray, IsSound, statements, some_count, and_left, and_right, size_of, lt-div-mul-add, mul-le-mul_left, mul_comm, leb-true, flat_map, list_all}
-use Rattle.nc_base.specs.Bytes.{AreBytes}
-use Rattle.nc_base.specs.declared.{dataset.Dataset.Dataset, header.Dim.Dim, nc_type.NcType.NcType, version.Version.Version}
+use Rattle.nc_types.specs.Bytes.{AreBytes}
+use Rattle.nc_base.specs.declared.{dataset.Dataset.Dataset, header.Dim.Dim}
+use Rattle.nc_types.specs.declared.{nc_type.NcType.NcType, version.Version.Version}
 use Rattle.nc_base.specs.GeneratedFile.{known_records}
 use Rattle.nc_base.specs.Numbers.{bytes_of_number}
 use Rattle.nc_base.proofs.FilePlaces.{length-numbers}

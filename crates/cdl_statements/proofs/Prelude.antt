@@ -27,8 +27,8 @@ unfoldable pub use Rattle.cdl_tokens.specs.Numerals.{numeral, parts}
 pub use Rattle.cdl_tokens.specs.Tokens.{is_end, raw}
 pub use Rattle.cdl_tokens.specs.code.Scanners.{followed, left}
 pub use Rattle.cdl_tokens.specs.declared.{token.Token.Token, token.TokenKind.TokenKind}
-unfoldable pub use Rattle.nc_base.specs.Escapes.{is_reserved}
-pub use Rattle.nc_base.specs.declared.version.Version.{Version}
+unfoldable pub use Rattle.nc_types.specs.Escapes.{is_reserved}
+pub use Rattle.nc_types.specs.declared.version.Version.{Version}
 pub use Rattle.std.proofs.lemmas.Bool.{false≢true, le-leb, leb-true}
 pub use Rattle.std.specs.Option.{option_and_then, option_map, option_or, ok_or}
 pub use Rattle.nc_base.proofs.Tests.{and_right, none_before, and_left}
@@ -43,6 +43,6 @@ pub use Rattle.cdl_statements.specs.declared.due.Due.TheVariants.{DimensionName,
 pub use Rattle.cdl_tokens.specs.code.Magnitudes.{held}
 pub use Rattle.cdl_tokens.specs.declared.numeral.Numeral.{Numeral}
 pub use Rattle.nc_base.proofs.SoundLaws.{some_size, sound_shape, whole_part, some_count}
-pub use Rattle.nc_base.specs.Types.{size_of}
+pub use Rattle.nc_types.specs.Types.{size_of}
 pub use Rattle.std.proofs.Math.Nat.{mod-eq-sub-div-mul, mul-div_cancel, lt-div-mul-add, mul-le-mul_left, mul_comm}
 pub use Rattle.std.specs.List.{list_all, flat_map}

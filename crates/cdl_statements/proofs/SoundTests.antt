@@ -2,8 +2,9 @@
 use Rattle.cdl_statements.proofs.Prelude.{◌≡◌, ℕ, ◌/◌, ◌%◌, ◌<◌, ◌≤◌, Bool, false, ◌==◌, nat_le, List, [], ◌∷◌, length, filter, refl, arith, All, IsTrue, slab_size, record_size, slab_limit, record_limit, AreDimids, HasWholeValues, IsSound, IsSoundAtt, IsSoundDim, IsSoundNumRecs, IsSoundVar, some_size, sound_shape, whole_part, size_of, mod-eq-sub-div-mul, mul-div_cancel, le-leb, leb-true, list_all}
 use Rattle.std.specs.Bool.{Decides}
 use Rattle.std.proofs.lemmas.Bool.Decides.{Decides-and, Decides-by_and, Decides-like, Decides-ltb, nat_tests}
-use Rattle.nc_base.specs.declared.{header.Att.Att, header.Dim.Dim, header.Header.Header, header.NumRecs.NumRecs, header.Var.Var, version.Version.Version}
-use Rattle.nc_base.specs.Versions.{count_limit, has_type}
+use Rattle.nc_base.specs.declared.{header.Att.Att, header.Dim.Dim, header.Header.Header, header.NumRecs.NumRecs, header.Var.Var}
+use Rattle.nc_types.specs.declared.{version.Version.Version}
+use Rattle.nc_types.specs.Versions.{count_limit, has_type}
 use Rattle.nc_base.specs.Grammar.{is_dimid}
 use Rattle.nc_base.specs.code.SizeParts.{is_fixed_dim}
 use Rattle.nc_base.specs.code.SoundParts.{AreSoundAtts}

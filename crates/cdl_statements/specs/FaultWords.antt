@@ -1,6 +1,6 @@
 -- Definition. The words for the fault of a CDL text.
 use Rattle.std.specs.Prelude.{ℕ, [], ◌∷◌, codes, decimal}
-use Rattle.nc_base.specs.Bytes.{Bytes, concat_parts}
+use Rattle.nc_types.specs.Bytes.{Bytes, concat_parts}
 use Rattle.cdl_statements.specs.declared.{fault.CdlFault.CdlFault, fault.CdlKind.CdlKind}
 use Rattle.cdl_statements.specs.declared.fault.CdlKind.TheVariants.{OutOfMemory, BadToken, BadNumber, Syntax, BadName, DuplicateName, UnknownDimension, UnknownVariable, FloatingType, UnknownType, ZeroDimension, TwoRecordDims, BadShape, MixedConstants, NumberRange, WrongKind, TooManyValues, StringTooLong, DuplicateData, TooLarge}
 

@@ -1,12 +1,12 @@
 -- Definition. What the tokens of a statement say.
 use Rattle.std.specs.Prelude.{ℕ, Bool, true, false, ◌&&◌, ◌==◌, not, if◌then◌else◌, slice_index, Option, None, Some}
 use Rattle.std.specs.Str.{bytes_eq}
-use Rattle.nc_base.specs.Bytes.{Bytes}
+use Rattle.nc_types.specs.Bytes.{Bytes}
 use Rattle.cdl_tokens.specs.Escapes.{word_value}
 use Rattle.cdl_tokens.specs.Tokens.{raw}
 use Rattle.cdl_tokens.specs.declared.{token.Token.Token, token.TokenKind.TokenKind}
 use Rattle.cdl_tokens.specs.declared.token.TokenKind.TheVariants as kinds
-use Rattle.nc_base.specs.Escapes.{is_reserved}
+use Rattle.nc_types.specs.Escapes.{is_reserved}
 
 -- a token without its line and its offsets
 pub record Lexeme : Type 0 where

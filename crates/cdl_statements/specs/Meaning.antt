@@ -1,12 +1,13 @@
 -- Definition. What a text means: a dataset, or its first fault with its line.
 use Rattle.std.specs.Prelude.{ℕ, ◌+◌, ◌-◌, ◌*◌, ◌/◌, nat_le, max, Bool, ◌&&◌, if◌then◌else◌, ℤ, List, [], ◌∷◌, length, map, None, Some, Result, Ok, Err}
 use Rattle.std.specs.List.{flat_map, list_all}
-use Rattle.nc_base.specs.Bytes.{Bytes}
-use Rattle.nc_base.specs.declared.{dataset.Dataset.Dataset, header.Dim.Dim, header.Header.Header, header.NumRecs.TheVariants.Known, version.Version.Version}
+use Rattle.nc_types.specs.Bytes.{Bytes}
+use Rattle.nc_base.specs.declared.{dataset.Dataset.Dataset, header.Dim.Dim, header.Header.Header, header.NumRecs.TheVariants.Known}
+use Rattle.nc_types.specs.declared.{version.Version.Version}
 use Rattle.nc_base.specs.Fill.{fill_value}
 use Rattle.nc_base.specs.Sizes.{value_count, is_record_var, slab_count, array_limit}
 use Rattle.nc_base.specs.Numbers.{bytes_of_number}
-use Rattle.nc_base.specs.Types.{size_of}
+use Rattle.nc_types.specs.Types.{size_of}
 use Rattle.cdl_statements.specs.Lexemes.{Lexeme, lexeme}
 use Rattle.cdl_statements.specs.Shapes.{shape, first_bad}
 use Rattle.cdl_statements.specs.SoundHeaders.{is_sound}

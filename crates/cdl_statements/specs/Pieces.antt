@@ -1,7 +1,7 @@
 -- Definition. The statements of a text: its tokens, cut into pieces.
 use Rattle.std.specs.Prelude.{ℕ, Bool, true, false, List, [], ◌∷◌, ◌==◌, ◌||◌, if◌then◌else◌, codes, slice_index, Option, None, Some}
 use Rattle.std.specs.Str.{byte, bytes_eq}
-use Rattle.nc_base.specs.Bytes.{Bytes}
+use Rattle.nc_types.specs.Bytes.{Bytes}
 use Rattle.cdl_tokens.specs.Tokens.{tokens}
 use Rattle.cdl_tokens.specs.declared.{token.Token.Token, token.TokenKind.TokenKind}
 use Rattle.cdl_tokens.specs.declared.token.TokenKind.TheVariants as kinds

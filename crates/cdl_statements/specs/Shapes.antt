@@ -2,7 +2,7 @@
 use Rattle.std.specs.Prelude.{ℕ, ℤ, Bool, true, false, List, [], ◌∷◌, ◌&&◌, ◌||◌, if◌then◌else◌, codes, Option, None, Some, is_none, is_some, nat_lt}
 use Rattle.std.specs.Str.{byte}
 use Rattle.std.specs.Option.{option_map, option_and_then, option_or}
-use Rattle.nc_base.specs.Bytes.{Bytes}
+use Rattle.nc_types.specs.Bytes.{Bytes}
 use Rattle.cdl_tokens.specs.Escapes.{inner, string_value}
 use Rattle.cdl_statements.specs.Lexemes.{Lexeme, is_mark, is_word, is_word_kind, is_opening_kind, name_of}
 use Rattle.cdl_statements.specs.Pieces.{section_of}
@@ -12,7 +12,7 @@ use Rattle.cdl_tokens.specs.declared.token.TokenKind.{TokenKind}
 use Rattle.cdl_tokens.specs.declared.token.TokenKind.TheVariants as kinds
 use Rattle.cdl_statements.specs.declared.{fault.CdlKind.CdlKind, section.Section.Section}
 use Rattle.cdl_statements.specs.declared.fault.CdlKind.TheVariants.{BadToken, BadNumber}
-use Rattle.nc_base.specs.declared.version.Version.{Version}
+use Rattle.nc_types.specs.declared.version.Version.{Version}
 use Rattle.cdl_statements.specs.declared.section.Section.TheVariants.{Unopened, Globals, Dimensions, Variables, Values, Closed, Ended}
 
 -- a CONST or a VALUE

@@ -1,12 +1,13 @@
 -- Definition. The test whether a header is sound: what `Headers.IsSound` of nc_base says, as a test.
 use Rattle.std.specs.Prelude.{ℕ, ◌/◌, ◌%◌, Bool, true, false, ◌&&◌, ◌==◌, nat_lt, nat_le, List, [], ◌∷◌, length, filter}
 use Rattle.std.specs.List.{list_all}
-use Rattle.nc_base.specs.declared.{header.Att.Att, header.Dim.Dim, header.Header.Header, header.NumRecs.NumRecs, header.Var.Var, version.Version.Version}
+use Rattle.nc_base.specs.declared.{header.Att.Att, header.Dim.Dim, header.Header.Header, header.NumRecs.NumRecs, header.Var.Var}
+use Rattle.nc_types.specs.declared.{version.Version.Version}
 use Rattle.nc_base.specs.declared.header.NumRecs.TheVariants.{Known, Streaming}
 use Rattle.nc_base.specs.Grammar.{is_dimid}
 use Rattle.nc_base.specs.Sizes.{slab_size, record_size, slab_limit, record_limit}
-use Rattle.nc_base.specs.Types.{size_of}
-use Rattle.nc_base.specs.Versions.{count_limit, has_type}
+use Rattle.nc_types.specs.Types.{size_of}
+use Rattle.nc_types.specs.Versions.{count_limit, has_type}
 
 -- the version can count this number of elements
 abbrev pub is_countable : Version → ℕ → Bool

@@ -4,17 +4,18 @@ use Rattle.std.specs.List.{list_any, position}
 use Rattle.std.specs.Option.{ok_or}
 use Rattle.std.specs.Ordering.{int_eq}
 use Rattle.std.specs.Str.{bytes_eq}
-use Rattle.nc_base.specs.Bytes.{Bytes}
+use Rattle.nc_types.specs.Bytes.{Bytes}
 use mir.Val.{bits, hbits}
-use Rattle.nc_base.specs.declared.{header.Att.Att, header.Dim.Dim, header.Var.Var, nc_type.NcType.NcType, version.Version.Version}
-use Rattle.nc_base.specs.declared.nc_type.NcType.TheVariants.{Char, Int}
+use Rattle.nc_base.specs.declared.{header.Att.Att, header.Dim.Dim, header.Var.Var}
+use Rattle.nc_types.specs.declared.{nc_type.NcType.NcType, version.Version.Version}
+use Rattle.nc_types.specs.declared.nc_type.NcType.TheVariants.{Char, Int}
 use Rattle.nc_base.specs.Fill.{fill_value}
 use Rattle.nc_base.specs.Sizes.{has_record_dim, is_record_dim, is_record_var, slab_count}
-use Rattle.nc_base.specs.Names.{is_name}
+use Rattle.nc_types.specs.Names.{is_name}
 use Rattle.nc_base.specs.Numbers.{bytes_of_number}
-use Rattle.nc_base.specs.Types.{all_types, code_of, type_word, width_of, is_signed}
+use Rattle.nc_types.specs.Types.{all_types, code_of, type_word, width_of, is_signed}
 use Rattle.nc_base.specs.ValueText.{row_len, is_char}
-use Rattle.nc_base.specs.Versions.{count_limit, has_type}
+use Rattle.nc_types.specs.Versions.{count_limit, has_type}
 use Rattle.cdl_statements.specs.Lexemes.{Lexeme, is_word}
 use Rattle.cdl_statements.specs.Shapes.{Value, Number, Characters, Underscore, Dimension, Variable, Statement, Open, Enter, DeclareDimensions, DeclareVariables, Attribute, Listed, Close, End}
 use Rattle.cdl_statements.specs.declared.{fault.CdlKind.CdlKind, section.Section.Section}

@@ -106,7 +106,7 @@ impl fmt::Display for CdlFault {
     ghost output = { λ fault. Some (cdl_fault_text fault) };
 
     /// Writes `line N: ` and the words for the kind of fault. Of `OutOfMemory`, which belongs to no line, it writes the words alone.
-    #[tactic(auto, unfolding(nc_base::specs::Bytes::concat_parts, crate::specs::FaultWords::cdl_fault_text, crate::specs::FaultWords::line_prefix))]
+    #[tactic(auto, unfolding(nc_types::specs::Bytes::concat_parts, crate::specs::FaultWords::cdl_fault_text, crate::specs::FaultWords::line_prefix))]
     fn fmt<W: fmt::Write>(&self, f: &mut fmt::Formatter<W>) -> fmt::Result {
         match self.kind {
             CdlKind::OutOfMemory => self.kind.fmt(f),

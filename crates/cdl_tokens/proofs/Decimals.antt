@@ -1,6 +1,6 @@
 -- Decimal numbers, digit by digit.
 use Rattle.cdl_tokens.proofs.Prelude.{common_steps, prefix_len, take_while, Version, is_digit, number_in, ReadsDigits, held, in_decimal, type_of_suffix, ◌≡◌, ℕ, true, false, ◌+◌, ◌*◌, ◌-◌, ◌<◌, List, ◌∷◌, get_or, length, take, drop, refl, ap, ◌∙◌, arith, Bool, Some, ◌==◌, nat_lt, option_map, slice_index}
-use Rattle.nc_base.specs.declared.nc_type.NcType.{NcType}
+use Rattle.nc_types.specs.declared.nc_type.NcType.{NcType}
 use Rattle.cdl_tokens.proofs.Steps.{take_one_more, none_first}
 
 -- the first bytes that are decimal digits

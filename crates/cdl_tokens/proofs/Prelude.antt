@@ -14,7 +14,7 @@ pub use Rattle.cdl_tokens.specs.code.PlainTokens.{Begins, BeginsDecimal, BeginsS
 pub use Rattle.cdl_tokens.specs.code.Scanners.{followed, goes_on, is_ordinary, is_token, is_unescaped, left}
 pub use Rattle.cdl_tokens.specs.declared.{scan.Scanned.Scanned, token.Token.Token, token.TokenKind.TokenKind}
 pub use Rattle.cdl_tokens.specs.declared.token.TokenKind.TheVariants.{End, Mark, Number, Text, Word}
-pub use Rattle.nc_base.specs.declared.{nc_type.NcType.NcType, nc_type.NcType.TheVariants.Int, version.Version.Version}
+pub use Rattle.nc_types.specs.declared.{nc_type.NcType.NcType, nc_type.NcType.TheVariants.Int, version.Version.Version}
 pub use Rattle.std.proofs.lemmas.Bool.{cases_lt, false≢true, ne_eqb}
 pub use Rattle.std.proofs.lemmas.Grind.{common_steps, pow_more}
 pub use Rattle.std.proofs.lemmas.List.{append-nil, at_drop_all, at_drop_more, drop-drop, get_or-drop, get_or_past, length-drop, length-take-le, take-append-drop, take-take, take_all}

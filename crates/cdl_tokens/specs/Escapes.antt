@@ -2,7 +2,7 @@
 use Rattle.std.specs.Prelude.{ℕ, zero, suc, List, [], ◌∷◌, ◌+◌, ◌-◌, ◌==◌, nat_lt, if◌then◌else◌, slice_index, take, drop, length, map, Option, None, Some, unwrap_or}
 use Rattle.std.specs.Str.{byte}
 use Rattle.std.specs.List.{take_while}
-use Rattle.nc_base.specs.Bytes.{Bytes}
+use Rattle.nc_types.specs.Bytes.{Bytes}
 use Rattle.cdl_tokens.specs.declared.scan.Character.{Character}
 use Rattle.cdl_tokens.specs.Bytes.{is_escape, is_octal, is_hex, number_in}
 

@@ -4,12 +4,12 @@ use Rattle.std.specs.Char.{to_ascii_lowercase}
 use Rattle.std.specs.List.{prefix_len}
 use Rattle.std.specs.Option.{option_map}
 use Rattle.std.specs.Str.{byte, bytes_eq}
-use Rattle.nc_base.specs.Bytes.{Bytes}
+use Rattle.nc_types.specs.Bytes.{Bytes}
 use Rattle.cdl_tokens.specs.Bytes.{is_digit, is_octal, is_hex, is_sign, number_in}
-use Rattle.nc_base.specs.declared.{nc_type.NcType.NcType, version.Version.Version}
-use Rattle.nc_base.specs.declared.nc_type.NcType.TheVariants.{Char, Int}
-use Rattle.nc_base.specs.Types.{all_types, number_suffix}
-use Rattle.nc_base.specs.Versions.{has_type}
+use Rattle.nc_types.specs.declared.{nc_type.NcType.NcType, version.Version.Version}
+use Rattle.nc_types.specs.declared.nc_type.NcType.TheVariants.{Char, Int}
+use Rattle.nc_types.specs.Types.{all_types, number_suffix}
+use Rattle.nc_types.specs.Versions.{has_type}
 
 -- what a number token says
 pub record TypedNumber : Type 0 where

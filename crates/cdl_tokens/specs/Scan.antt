@@ -3,7 +3,7 @@
 use Rattle.std.specs.Prelude.{ℕ, Bool, [], ◌∷◌, ◌+◌, ◌&&◌, ◌||◌, ◌==◌, nat_lt, nat_eq, not, if◌then◌else◌, slice_index, take, drop, length, codes, None, Some, is_some}
 use Rattle.std.specs.Str.{byte}
 use Rattle.std.specs.List.{list_all, prefix_len, starts_with}
-use Rattle.nc_base.specs.Bytes.{Bytes}
+use Rattle.nc_types.specs.Bytes.{Bytes}
 use Rattle.cdl_tokens.specs.Bytes.{is_blank, is_digit, may_begin_word, goes_on_word, goes_on_number, is_sign, is_mark_byte, is_escape}
 use Rattle.cdl_tokens.specs.Escapes.{unescape}
 use Rattle.cdl_tokens.specs.declared.{scan.Scanned.Scanned, token.TokenKind.TokenKind}

@@ -1,7 +1,7 @@
 -- Definition. The tokens of a text.
 use Rattle.std.specs.Prelude.{ℕ, zero, suc, Bool, true, false, List, [], ◌∷◌, ◌+◌, ◌-◌, ◌&&◌, ◌==◌, take, drop, count_by, Option, None, Some, is_none}
 use Rattle.std.specs.Str.{byte}
-use Rattle.nc_base.specs.Bytes.{Bytes}
+use Rattle.nc_types.specs.Bytes.{Bytes}
 use Rattle.cdl_tokens.specs.Scan.{scan}
 use Rattle.cdl_tokens.specs.declared.{token.Token.Token, token.TokenKind.TokenKind, token.TokenKind.TheVariants.End}
 

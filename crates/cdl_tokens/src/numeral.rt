@@ -9,7 +9,7 @@ ghost use Rattle.cdl_tokens.specs.Numerals.{has_suffix, in_base, parts, type_of_
 
 use crate::bytes::{byte_at, is_digit, is_sign};
 use crate::digits::{digit_len, hex_len, number_in, octal_len};
-use nc_base::{NcType, Version};
+use nc_types::{NcType, Version};
 
 /// What a number token says: a sign, a magnitude and a type.
 #[derive(Clone, Copy, Debug, PartialEq, Eq)]

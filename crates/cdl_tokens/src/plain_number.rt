@@ -5,7 +5,7 @@ ghost use Rattle.cdl_tokens.specs.code.PlainTokens.{Begins, BeginsDecimal, Begin
 
 use crate::bytes::{byte_at, ends_value};
 use crate::numeral::{Numeral, first_digits};
-use nc_base::NcType;
+use nc_types::NcType;
 
 /// A plain number at the start of bytes.
 #[derive(Clone, Copy)]

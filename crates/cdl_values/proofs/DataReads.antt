@@ -1,7 +1,7 @@
 -- What a statement of the data section means, case by case.
 use Rattle.cdl_values.proofs.Prelude.{false≢true, Version, word_value, Lexeme, is_mark, is_word_kind, is_mark_kind, first_bad, token_fault, completes, next, next_if, is_whole, only_completes, values, Due, DataName, Equals, CdlKind, Syntax, good_on, TokenKind, packed, FailsRead, data_read, bytes_assigned, packed_for, target_of, Target, ReadError, and_left, and_right, ◌≡◌, ℕ, true, false, List, [], ◌∷◌, refl, sym, ◌∙◌, Bool, None, Some, Result, Ok, Err, ◌==◌, not, slice_index, if◌then◌else◌, arith}
 use Rattle.cdl_statements.specs.code.DueTokens.{is_name}
-use Rattle.nc_base.specs.Escapes.{is_reserved}
+use Rattle.nc_types.specs.Escapes.{is_reserved}
 use Rattle.std.specs.Option.{option_or}
 use Rattle.cdl_statements.specs.declared.due.Due.TheVariants.{Value}
 

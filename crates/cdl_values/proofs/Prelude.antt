@@ -44,13 +44,14 @@ pub use Rattle.cdl_values.specs.code.ValueRuns.{GoesOn, Place, TakesValues, plac
 pub use Rattle.cdl_values.specs.declared.capacity.Capacity.TheVariants.{AtMost, Unlimited}
 pub use Rattle.cdl_values.specs.declared.form.ValueForm.TheVariants.{Joined, Numbers, Rows}
 pub use Rattle.cdl_values.specs.declared.read_error.ReadError.TheVariants.{Fault, OutOfMemory}
-pub use Rattle.nc_base.specs.Names.{is_name}
+pub use Rattle.nc_types.specs.Names.{is_name}
 pub use Rattle.nc_base.specs.NumberLaws.{IsInRange}
 pub use Rattle.nc_base.specs.Numbers.{bytes_of_number}
 pub use Rattle.nc_base.specs.Sizes.{dim_len, is_record_var, product}
 pub use Rattle.nc_base.specs.ValueText.{is_char}
-pub use Rattle.nc_base.specs.declared.{header.Dim.Dim, nc_type.NcType.NcType, version.Version.Version}
-pub use Rattle.nc_base.specs.declared.nc_type.NcType.TheVariants.{Char, Int}
+pub use Rattle.nc_base.specs.declared.{header.Dim.Dim}
+pub use Rattle.nc_types.specs.declared.{nc_type.NcType.NcType, version.Version.Version}
+pub use Rattle.nc_types.specs.declared.nc_type.NcType.TheVariants.{Char, Int}
 pub use Rattle.std.proofs.Math.Seq.{drop-append_seam, take-suc}
 pub use Rattle.std.proofs.lemmas.Bool.{cases_Bool, cond-false, cond-true, false≢true}
 pub use Rattle.std.proofs.lemmas.Grind.{common_steps, flat_map-append}

@@ -1,7 +1,7 @@
 //! Names, as words of a text spell them.
 
 ghost use Rattle.std.specs.Prelude.{◌≡◌, IfErr, IfOk, OnOk, true};
-ghost use Rattle.nc_base.specs.Names.{is_name};
+ghost use Rattle.nc_types.specs.Names.{is_name};
 ghost use Rattle.cdl_tokens.specs.Escapes.{word_value};
 ghost use Rattle.cdl_statements.specs.declared.fault.CdlKind.TheVariants.{BadName};
 ghost use Rattle.cdl_statements.specs.State.{unless};

@@ -3,7 +3,7 @@
 ghost use Rattle.std.specs.Prelude.{◌≡◌, ◌<◌, ◌-◌, [], min, map, take, length, IfOk};
 ghost use Rattle.nc_base.specs.Headers.{AreDimids};
 ghost use Rattle.nc_base.specs.Sizes.{dim_len, product};
-ghost use Rattle.nc_base.specs.declared.nc_type.NcType.TheVariants.{Char};
+ghost use Rattle.nc_types.specs.declared.nc_type.NcType.TheVariants.{Char};
 ghost use Rattle.cdl_statements.specs.State.{takes_of};
 ghost use Rattle.cdl_values.specs.code.Capacities.{Fills, HasCapacityAsFilled, most};
 ghost use Rattle.cdl_values.specs.code.Listed.{unlisted_draft};

@@ -5,8 +5,7 @@ ghost use Rattle.std.specs.Prelude.{◌≡◌, None, OnOk};
 ghost use Rattle.cdl_statements.specs.Shapes.{token_fault};
 ghost use Rattle.cdl_statements.specs.declared.fault.CdlKind.{CdlKind};
 ghost use Rattle.cdl_values.specs.code.Answers.{Adds, RefusesValue};
-ghost use Rattle.cdl_values.specs.code.TokenValues.{Appends, AppendsNumber, CountsOne, PacksGood, PacksToken};
-ghost use Rattle.cdl_values.specs.code.TokenValues.{at, number_token_bytes, token_bytes};
+ghost use Rattle.cdl_values.specs.code.TokenValues.{Appends, AppendsNumber, CountsOne, PacksGood, PacksToken, at, number_token_bytes, token_bytes};
 
 use crate::capacity::Capacity;
 use crate::fill::Fill;

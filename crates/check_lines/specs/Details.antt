@@ -1,21 +1,21 @@
 -- Definition. What a line says of what is found, and of what is expected in its place: the message of each fact.
 use Rattle.std.specs.Prelude.{ℕ, ◌-◌, ◌^◌, ◌==◌, ◌&&◌, Bool, true, false, nat_lt, if◌then◌else◌, List, [], ◌∷◌, length, codes, Option, Some, None, slice_get}
 use Rattle.std.specs.Option.{option_map_or}
-use Rattle.nc_base.specs.Bytes.{Bytes}
+use Rattle.nc_types.specs.Bytes.{Bytes}
 use Rattle.nc_base.specs.declared.fault.FormatFault.{FormatFault}
 use Rattle.nc_base.specs.declared.fault.FormatFault.TheVariants as fault
 use Rattle.nc_base.specs.Grammar.{attribute_tag, dimension_tag, variable_tag}
-use Rattle.nc_fields.specs.declared.{place.Owner.Owner, place.FieldKind.FieldKind, entry.Entry.Entry, header.Listing.Listing}
-use Rattle.nc_fields.specs.declared.place.Owner.TheVariants as owner
-use Rattle.nc_fields.specs.declared.place.FieldKind.TheVariants as field
-use Rattle.nc_fields.specs.declared.entry.Content.TheVariants as content
-use Rattle.nc_fields.specs.Entries.{number_of}
-use Rattle.nc_layout.specs.declared.finding.Block.TheVariants as block
-use Rattle.nc_layout.specs.declared.finding.LayoutFact.{LayoutFact}
-use Rattle.nc_layout.specs.declared.finding.LayoutFact.TheVariants as layout
-use Rattle.nc_report.specs.declared.finding.Fact.{Fact}
-use Rattle.nc_report.specs.declared.finding.Fact.TheVariants as fact
-use Rattle.nc_report.specs.FieldRules.{highest_rank, large_count, longest_name}
+use Rattle.nc_findings.specs.declared.{listing.Listing.Listing, place.Owner.Owner, place.FieldKind.FieldKind, entry.Entry.Entry}
+use Rattle.nc_findings.specs.declared.place.Owner.TheVariants as owner
+use Rattle.nc_findings.specs.declared.place.FieldKind.TheVariants as field
+use Rattle.nc_findings.specs.declared.entry.Content.TheVariants as content
+use Rattle.nc_findings.specs.Contents.{number_of}
+use Rattle.nc_findings.specs.declared.layout_fact.Block.TheVariants as block
+use Rattle.nc_findings.specs.declared.layout_fact.LayoutFact.{LayoutFact}
+use Rattle.nc_findings.specs.declared.layout_fact.LayoutFact.TheVariants as layout
+use Rattle.nc_findings.specs.declared.finding.Fact.{Fact}
+use Rattle.nc_findings.specs.declared.finding.Fact.TheVariants as fact
+use Rattle.nc_findings.specs.Limits.{highest_rank, large_count, longest_name}
 use Rattle.check_lines.specs.declared.message.Part.TheVariants.{Number, Long, TypeCode, FieldContent, FieldType, FieldZeros, OfBlock}
 use Rattle.check_lines.specs.Messages.{Message, message_text, says}
 

@@ -4,13 +4,12 @@ use Rattle.std.specs.Prelude.{ℕ, ◌+◌, ◌&&◌, not, Bool, true, false, if
 use Rattle.std.specs.List.{list_any}
 use Rattle.std.specs.Option.{option_and_then}
 use Rattle.std.specs.Str.{bytes_eq}
-use Rattle.nc_base.specs.Bytes.{Bytes, concat_parts}
-use Rattle.nc_fields.specs.declared.{entry.Entry.Entry, header.Listing.Listing}
-use Rattle.nc_layout.specs.declared.finding.LayoutFact.TheVariants as layout
-use Rattle.nc_report.specs.Kinds.{kind_of, severity_of}
-use Rattle.nc_report.specs.declared.{finding.Fact.Fact, finding.Finding.Finding, kind.Kind.Kind, kind.Severity.Severity}
-use Rattle.nc_report.specs.declared.finding.Fact.TheVariants as fact
-use Rattle.nc_report.specs.declared.kind.Severity.TheVariants.{Error, Violation, Note}
+use Rattle.nc_types.specs.Bytes.{Bytes, concat_parts}
+use Rattle.nc_findings.specs.declared.{listing.Listing.Listing, entry.Entry.Entry, finding.Fact.Fact, finding.Finding.Finding, kind.Kind.Kind, kind.Severity.Severity}
+use Rattle.nc_findings.specs.declared.layout_fact.LayoutFact.TheVariants as layout
+use Rattle.nc_findings.specs.Kinds.{kind_of, severity_of}
+use Rattle.nc_findings.specs.declared.finding.Fact.TheVariants as fact
+use Rattle.nc_findings.specs.declared.kind.Severity.TheVariants.{Error, Violation, Note}
 use Rattle.check_lines.specs.Details.{details}
 use Rattle.check_lines.specs.Paths.{KnownNames, field_path, names_after, no_names, slab_path}
 use Rattle.check_lines.specs.Shown.{shown_path}

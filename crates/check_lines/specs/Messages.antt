@@ -2,11 +2,11 @@
 use Rattle.std.specs.Prelude.{ℕ, ◌-◌, ◌+◌, ◌/◌, ◌%◌, ◌==◌, Bool, true, false, nat_lt, if◌then◌else◌, List, [], ◌∷◌, codes, decimal, map, Result}
 use Rattle.std.specs.List.{after_first, before_first}
 use Rattle.std.specs.Str.{byte}
-use Rattle.nc_base.specs.Bytes.{Bytes, concat_parts}
+use Rattle.nc_types.specs.Bytes.{Bytes, concat_parts}
 use Rattle.nc_base.specs.declared.{fault.FormatFault.FormatFault, header.Header.Header}
-use Rattle.nc_fields.specs.declared.entry.Content.{Content}
-use Rattle.nc_fields.specs.declared.entry.Content.TheVariants as content
-use Rattle.nc_fields.specs.Entries.{number_of}
+use Rattle.nc_findings.specs.declared.entry.Content.{Content}
+use Rattle.nc_findings.specs.declared.entry.Content.TheVariants as content
+use Rattle.nc_findings.specs.Contents.{number_of}
 use Rattle.check_lines.specs.declared.message.Part.{Part}
 use Rattle.check_lines.specs.declared.message.Part.TheVariants.{Number, Long, TypeCode, FieldContent, FieldType, FieldZeros, OfBlock, Nothing}
 use Rattle.check_lines.specs.Paths.{block_path}

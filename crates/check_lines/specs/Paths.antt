@@ -1,15 +1,14 @@
 -- Definition. Paths: the words that say where a finding lies. A path names what a field belongs to by its number, and by its name too, once
 -- the bytes of the name were read.
 use Rattle.std.specs.Prelude.{ℕ, List, [], ◌∷◌, codes, decimal, fold, Option, Some, None, option_map, slice_get, Result, Ok, Err}
-use Rattle.nc_base.specs.Bytes.{Bytes, concat_parts}
+use Rattle.nc_types.specs.Bytes.{Bytes, concat_parts}
 use Rattle.nc_base.specs.declared.{fault.FormatFault.FormatFault, header.Header.Header, header.Var.Var}
-use Rattle.nc_fields.specs.declared.{place.Owner.Owner, place.FieldKind.FieldKind, place.Place.Place, entry.Content.Content, entry.Entry.Entry}
-use Rattle.nc_fields.specs.declared.place.Owner.TheVariants as owner
-use Rattle.nc_fields.specs.declared.place.FieldKind.TheVariants as field
-use Rattle.nc_fields.specs.declared.entry.Content.TheVariants as content
-use Rattle.nc_layout.specs.declared.{finding.Block.Block, finding.Slab.Slab}
-use Rattle.nc_layout.specs.declared.finding.Block.TheVariants as block
-use Rattle.nc_layout.specs.declared.finding.Slab.TheVariants as slab
+use Rattle.nc_findings.specs.declared.{place.Owner.Owner, place.FieldKind.FieldKind, place.Place.Place, entry.Content.Content, entry.Entry.Entry, layout_fact.Block.Block, layout_fact.Slab.Slab}
+use Rattle.nc_findings.specs.declared.place.Owner.TheVariants as owner
+use Rattle.nc_findings.specs.declared.place.FieldKind.TheVariants as field
+use Rattle.nc_findings.specs.declared.entry.Content.TheVariants as content
+use Rattle.nc_findings.specs.declared.layout_fact.Block.TheVariants as block
+use Rattle.nc_findings.specs.declared.layout_fact.Slab.TheVariants as slab
 use Rattle.check_lines.specs.Shown.{shown_name}
 
 -- ---- names

@@ -2,9 +2,9 @@
 use Rattle.std.specs.Prelude.{ℕ, ◌==◌, ◌||◌, Bool, true, false, not, nat_le, if◌then◌else◌, [], ◌∷◌, codes, length, take}
 use Rattle.std.specs.Char.{is_ascii_control}
 use Rattle.std.specs.Str.{byte, is_utf8}
-use Rattle.nc_base.specs.Bytes.{Bytes, concat_parts}
-use Rattle.nc_base.specs.Escapes.{escaped_in_string, octal_escape}
-use Rattle.nc_base.specs.Names.{is_beyond_ascii}
+use Rattle.nc_types.specs.Bytes.{Bytes, concat_parts}
+use Rattle.nc_types.specs.Escapes.{escaped_in_string, octal_escape}
+use Rattle.nc_types.specs.Names.{is_beyond_ascii}
 use Rattle.check_lines.specs.Words.{each_of}
 use Rattle.check_lines.specs.declared.shown.Form.{Form}
 use Rattle.check_lines.specs.declared.shown.Form.TheVariants.{Quoted, Bare}

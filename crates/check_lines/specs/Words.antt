@@ -1,9 +1,9 @@
 -- Definition. The words of severities and of kinds of findings.
 use Rattle.std.specs.Prelude.{List, codes, map}
-use Rattle.nc_base.specs.Bytes.{Bytes, concat_parts}
-use Rattle.nc_report.specs.declared.{kind.Kind.Kind, kind.Severity.Severity}
-use Rattle.nc_report.specs.declared.kind.Kind.TheVariants.{NotNetcdf, Hdf5, Gzip, EmptyFile, UnknownVersion, HeaderTruncated, BadTag, BadCount, BadName, NameCharacters, FloatingType, BadType, BadShape, TwoRecordDims, TooLarge, BadOffset, LargeCount, Streaming, UnusedRecords, EmptyList, LongName, DuplicateName, NotNfc, Padding, EmptyAttribute, TrailingNul, FillValue, HighRank, Vsize, LargeVariable, BeginInHeader, Overlap, Unpadded, Order, AfterRecords, RecordPlace, Gap, Missing, EndPadding, Trailing}
-use Rattle.nc_report.specs.declared.kind.Severity.TheVariants.{Error, Violation, Note}
+use Rattle.nc_types.specs.Bytes.{Bytes, concat_parts}
+use Rattle.nc_findings.specs.declared.{kind.Kind.Kind, kind.Severity.Severity}
+use Rattle.nc_findings.specs.declared.kind.Kind.TheVariants.{NotNetcdf, Hdf5, Gzip, EmptyFile, UnknownVersion, HeaderTruncated, BadTag, BadCount, BadName, NameCharacters, FloatingType, BadType, BadShape, TwoRecordDims, TooLarge, BadOffset, LargeCount, Streaming, UnusedRecords, EmptyList, LongName, DuplicateName, NotNfc, Padding, EmptyAttribute, TrailingNul, FillValue, HighRank, Vsize, LargeVariable, BeginInHeader, Overlap, Unpadded, Order, AfterRecords, RecordPlace, Gap, Missing, EndPadding, Trailing}
+use Rattle.nc_findings.specs.declared.kind.Severity.TheVariants.{Error, Violation, Note}
 
 unfoldable pub severity_word : Severity → Bytes
 severity_word Error = codes "error"

@@ -6,7 +6,7 @@ ghost use Rattle.check_lines.specs.Messages.{content_text, digits, hex_byte, hex
 ghost use Rattle.check_lines.specs.Words.{each_of};
 
 use devices::{Sink, WriteFailed, put, put_decimal};
-use nc_fields::Content;
+use nc_findings::Content;
 
 /// Writes the content of a field `nc_type`, and the name of the type in brackets: `5 (float)`. A code that no type has stands alone.
 /// Content that isn't a number is written as [`put_content`] writes it. Errs if the sink fails.

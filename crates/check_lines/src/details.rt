@@ -11,8 +11,7 @@ use crate::layout_message::layout_message;
 use crate::message::Part::{FieldContent, FieldType, FieldZeros, Nothing, Number, TypeCode};
 use crate::message::{CONTENT, Message, NO_PARTS, put_message};
 use devices::{Sink, WriteFailed};
-use nc_fields::{Content, Entry, Listing, Owner};
-use nc_report::{Fact, HIGHEST_RANK, LARGE_COUNT, LONGEST_NAME};
+use nc_findings::{Content, Entry, Fact, HIGHEST_RANK, LARGE_COUNT, LONGEST_NAME, Listing, Owner};
 
 /// Writes the end of a finding's line: what is found and what is expected, such as `: found 3, expected 0`, or nothing if the fact says no
 /// more. `listing` has the header's fields, and `entry` is the finding's field. With `None`, for a finding in the data, it writes only a

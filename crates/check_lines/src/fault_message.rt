@@ -7,7 +7,7 @@ ghost use Rattle.check_lines.specs.code.Written.{message_of};
 use crate::message::Part::{FieldContent, FieldType, Long, Nothing, Number};
 use crate::message::{CONTENT, Message, NO_PARTS};
 use nc_base::FormatFault;
-use nc_fields::{Entry, FieldKind, Listing};
+use nc_findings::{Entry, FieldKind, Listing};
 
 /// The index of the version among the fields of a header, of which `CDF` is the first.
 const VERSION_FIELD: usize = 1;

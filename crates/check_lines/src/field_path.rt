@@ -9,8 +9,7 @@ use crate::known_names::Names;
 use crate::shown::put_name;
 use devices::{Sink, WriteFailed, put, put_decimal};
 use nc_base::{FormatFault, Header};
-use nc_fields::{FieldKind, Owner, Place};
-use nc_layout::{Block, Slab};
+use nc_findings::{Block, FieldKind, Owner, Place, Slab};
 
 /// Writes the path of a field, such as `var[2] "temperature" vsize`: what it belongs to, and which of its fields it is. `names` are the
 /// names that are known at the field. Errs if the sink fails.

@@ -1,7 +1,7 @@
 //! Which findings to report.
 
 use nc_base::Sequence;
-use nc_report::Severity;
+use nc_findings::Severity;
 
 /// Which findings to report: those that are grave enough, and not of an ignored kind.
 #[derive(Debug, Drop)]

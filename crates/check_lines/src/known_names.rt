@@ -4,7 +4,7 @@ ghost use Rattle.std.specs.Prelude.{◌≡◌};
 ghost use Rattle.check_lines.specs.Paths.{bytes_in, no_names, renamed, with_field};
 ghost use Rattle.check_lines.specs.code.Names.{bytes_of, known};
 
-use nc_fields::{Content, Entry, FieldKind, Owner};
+use nc_findings::{Content, Entry, FieldKind, Owner};
 
 /// The names of what a field belongs to, which paths show. A name is known once its bytes were passed in the listing.
 #[derive(Clone, Copy)]

@@ -6,7 +6,7 @@ ghost use Rattle.check_lines.specs.code.Written.{message_of};
 
 use crate::message::Message;
 use crate::message::Part::{Long, Nothing, Number, OfBlock};
-use nc_layout::{Block, LayoutFact};
+use nc_findings::{Block, LayoutFact};
 
 /// Returns the message for a fact about the layout of the file: a text such as `: found _, expected at most _`, and the parts that fill its
 /// blanks `_`.

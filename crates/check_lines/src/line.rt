@@ -11,9 +11,7 @@ use crate::known_names::Names;
 use crate::shown::put_file_path;
 use crate::words::{kind_word, severity_word};
 use devices::{Sink, WriteFailed, put, put_decimal};
-use nc_fields::{Entry, Listing};
-use nc_layout::LayoutFact;
-use nc_report::{Fact, Finding, Kind};
+use nc_findings::{Entry, Fact, Finding, Kind, LayoutFact, Listing};
 
 /// Writes the line of a finding: `FILE:OFFSET: SEVERITY: KIND: PATH`, what is found and expected, and a line feed. FILE is the path `file`,
 /// `listing` has the header's fields, and `names` are the names of what the finding's field belongs to, as far as they are known. Errs if

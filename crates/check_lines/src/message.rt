@@ -10,8 +10,7 @@ use crate::content::{put_content, put_type, put_zeros};
 use crate::field_path::put_block_path;
 use devices::{Sink, WriteFailed, put, put_decimal};
 use nc_base::{FormatFault, Header};
-use nc_fields::Content;
-use nc_layout::Block;
+use nc_findings::{Block, Content};
 
 /// A text with blanks, and the parts that stand in their place.
 #[derive(Clone, Copy)]

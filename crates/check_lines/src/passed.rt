@@ -6,7 +6,7 @@ ghost use Rattle.check_lines.specs.Paths.{names_after};
 ghost use Rattle.check_lines.specs.code.Names.{IsPassed, known};
 
 use crate::known_names::{Names, no_names, with_field};
-use nc_fields::Entry;
+use nc_findings::Entry;
 
 /// How many fields of a listing were passed, and the names that are known after them.
 #[derive(Clone, Copy)]

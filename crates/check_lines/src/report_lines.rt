@@ -12,8 +12,7 @@ use crate::line::put_line;
 use crate::passed::{Passed, nothing_passed, passed_up_to};
 use crate::words::kind_word;
 use devices::{Sink, WriteFailed};
-use nc_fields::Listing;
-use nc_report::{Finding, Kind, Report, Severity};
+use nc_findings::{Finding, Kind, Listing, Report, Severity};
 
 /// Writes a line for each finding of a report that `filter` lets be reported: one that is grave enough and of no ignored kind. The lines
 /// are in the order of the report. Each begins with `file`, which is the path of the file.

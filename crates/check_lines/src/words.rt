@@ -3,7 +3,7 @@
 ghost use Rattle.std.specs.Prelude.{◌≡◌};
 ghost use Rattle.check_lines.specs.Words.{kind_word, severity_word};
 
-use nc_report::{Kind, Severity};
+use nc_findings::{Kind, Severity};
 
 /// Returns the word of a severity, such as `note`.
 #[tactic(auto, unfolding(crate::specs::Words::severity_word))]

@@ -6,7 +6,7 @@ ghost use Rattle.cli_base.specs.Arguments.{flag, is_given, option};
 ghost use Rattle.cli_base.specs.code.Answers.{text_of};
 
 use clap::{Arg, ArgAction, ArgMatches};
-use nc_base::Sequence;
+use nc_types::Sequence;
 use std::alloc::{AllocError, Global};
 
 /// Returns an option that takes no value, such as `-h` for the letter `h`, for one command and not for subcommands (clause `local`).

@@ -2,7 +2,7 @@
 use Rattle.std.proofs.Common.{◌≡◌, ℕ, ◌+◌, ◌-◌, ◌<◌, ◌≤◌, List, [], ◌∷◌, ◌++◌, length, take, drop, refl, sym, ap, ◌∙◌, append_assoc, arith, subst, Option, Some, None, Result, Ok, Err, take-add, map, get_or, suc, take-suc, is_some, option_map, unwrap_or}
 use Rattle.std.proofs.lemmas.List.{append-nil, take-append-drop, length-take, length-drop, length-append, map-append, take_more, take_all}
 use Rattle.std.proofs.lemmas.Bool.{OnTrue_at, OnTrue_from}
-use Rattle.nc_base.specs.Bytes.{concat_parts}
+use Rattle.nc_types.specs.Bytes.{concat_parts}
 use Rattle.devices.specs.Failures.{HasFailed}
 use Rattle.devices.specs.Sinks.{SinkView, append, taken_len, IsPrefix, IsPrefixIf, IsCut, StoppedShort, is_transparent, Appended, FailedPartway}
 use Rattle.devices.specs.code.SinkWrites.{AcceptedSome, Written}

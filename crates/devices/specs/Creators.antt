@@ -1,6 +1,6 @@
 -- Definition. What creates outputs, as contracts see it.
 use Rattle.std.specs.Prelude.{ℕ, ◌≡◌, List, [], ◌∷◌, ◌++◌, Option}
-use Rattle.nc_base.specs.Bytes.{Bytes}
+use Rattle.nc_types.specs.Bytes.{Bytes}
 use Rattle.devices.specs.Failures.{HasFailed}
 
 -- a path and the bytes that it was given; None if these came from an opaque sink

@@ -1,6 +1,6 @@
 -- Definition. What opens paths, as its contracts see it.
 use Rattle.std.specs.Prelude.{ℕ, Bool, Option, Some}
-use Rattle.nc_base.specs.Bytes.{Bytes}
+use Rattle.nc_types.specs.Bytes.{Bytes}
 use Rattle.devices.specs.Failures.{one_more}
 use Rattle.devices.specs.declared.fault.OpenFailed.{OpenFailed}
 

@@ -1,6 +1,6 @@
 -- Definition. A reader, as contracts see it.
 use Rattle.std.specs.Prelude.{ℕ, Bool, true, false, [], Option, Some}
-use Rattle.nc_base.specs.Bytes.{Bytes}
+use Rattle.nc_types.specs.Bytes.{Bytes}
 use Rattle.devices.specs.declared.reader.CountedRead.{CountedRead}
 
 -- The bytes that are still to come (if the reader is transparent), how often it has failed, how often it was read, how many bytes it has

@@ -1,7 +1,7 @@
 -- Definition. What a sink has taken, and what a call has written to it.
 use Rattle.std.specs.Bool.{OnTrue}
 use Rattle.std.specs.Prelude.{Bool, is_some, ◌≡◌, ℕ, ◌≤◌, [], ◌++◌, length, Option, Some, None, option_map, unwrap_or}
-use Rattle.nc_base.specs.Bytes.{Bytes}
+use Rattle.nc_types.specs.Bytes.{Bytes}
 use Rattle.devices.specs.Failures.{HasFailed}
 
 -- a sink, as contracts see it: the bytes that it has taken, if it is transparent, and how often it has failed

@@ -36,8 +36,7 @@ pub struct ReadAhead<S: Source> {
 }
 
 impl<S: Source> ReadAhead<S> {
-    ghost use Rattle.devices.specs.code.Ahead.{Answers, IsFar, IsInStretch, ReadNoMore, ReadsAhead, SameCounts, SourceFails};
-    ghost use Rattle.devices.specs.code.Ahead.{bytes_of, taken, view_of};
+    ghost use Rattle.devices.specs.code.Ahead.{Answers, IsFar, IsInStretch, ReadNoMore, ReadsAhead, SameCounts, SourceFails, bytes_of, taken, view_of};
 
     /// Creates a source of the bytes of `source` that has read nothing ahead yet. Its own counts, of bytes and of failures, start at 0.
     pub fn new(source: S) -> ReadAhead<S>

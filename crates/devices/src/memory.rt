@@ -1,7 +1,7 @@
 //! Devices in memory.
 
 ghost use Rattle.std.specs.Prelude.{◌≡◌, ◌<◌, [], IsErr, Some, true, length};
-ghost use Rattle.nc_base.specs.Bytes.{AreBytes};
+ghost use Rattle.nc_types.specs.Bytes.{AreBytes};
 ghost use Rattle.devices.specs.code.SinkWrites.{unfailed};
 ghost use Rattle.devices.specs.code.SourceReads.{ReadSome, CantCount, unread};
 

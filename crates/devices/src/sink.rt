@@ -2,8 +2,7 @@
 
 ghost use Rattle.std.specs.Prelude.{◌≡◌, [], Bool, IfOk, true};
 ghost use Rattle.devices.specs.Sinks.{SinkView};
-ghost use Rattle.devices.specs.code.SinkWrites.{Wrote};
-ghost use Rattle.devices.specs.code.SinkWrites.{WroteSome};
+ghost use Rattle.devices.specs.code.SinkWrites.{Wrote, WroteSome};
 
 use crate::{SinkFailed, WriteFailed};
 

@@ -2,7 +2,7 @@
 
 ghost use Rattle.std.specs.Prelude.{◌≡◌, ◌<◌, Bool, length};
 ghost use Rattle.std.specs.Bool.{OnTrue};
-ghost use Rattle.nc_base.specs.Bytes.{AreBytes};
+ghost use Rattle.nc_types.specs.Bytes.{AreBytes};
 ghost use Rattle.devices.specs.Sources.{SourceView};
 ghost use Rattle.devices.specs.code.SourceReads.{ReadSome};
 

@@ -3,8 +3,9 @@ use Rattle.std.proofs.Common.{◌≡◌, ◌∙◌, ℕ, ◌<◌, [], ◌∷◌,
 use Rattle.std.proofs.lemmas.List.Elements.{All-cons, All-nil}
 use Rattle.nc_base.specs.GeneratedFile.{fits, with_begins}
 use Rattle.nc_base.specs.Headers.{IsSound, IsSoundAtt, IsSoundDim, IsSoundVar}
-use Rattle.nc_base.specs.Versions.{offset_limit}
-use Rattle.nc_base.specs.declared.{header.Header.Header, header.Var.Var, version.Version.TheVariants.Cdf1}
+use Rattle.nc_types.specs.Versions.{offset_limit}
+use Rattle.nc_base.specs.declared.{header.Header.Header, header.Var.Var}
+use Rattle.nc_types.specs.declared.{version.Version.TheVariants.Cdf1}
 use Rattle.nc_base.proofs.Fitting.{has-begins}
 use Rattle.nc_walk.specs.code.DataPart.{AreListedOf}
 use Rattle.example.specs.Headers.{int_header, v_var, x_dim}

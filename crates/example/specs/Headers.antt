@@ -1,6 +1,7 @@
 -- Definition. The header of the file.
 use Rattle.std.specs.Prelude.{[], ◌∷◌}
-use Rattle.nc_base.specs.declared.{header.Dim.Dim, header.Header.Header, header.NumRecs.TheVariants.Known, header.Var.Var, nc_type.NcType.TheVariants.Int, version.Version.TheVariants.Cdf1}
+use Rattle.nc_base.specs.declared.{header.Dim.Dim, header.Header.Header, header.NumRecs.TheVariants.Known, header.Var.Var}
+use Rattle.nc_types.specs.declared.{nc_type.NcType.TheVariants.Int, version.Version.TheVariants.Cdf1}
 
 -- `x`, of length 3
 abbrev pub x_dim : Dim

@@ -1,8 +1,8 @@
 //! What can fail.
 
+use crate::variable_fault::VariableFault;
 use devices::{OpenFailed, WriteFailed};
 use nc_file::OffsetTooLarge;
-use nc_variable::VariableFault;
 use nc_walk::WalkFault;
 use std::alloc::AllocError;
 use std::io;

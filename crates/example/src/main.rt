@@ -3,11 +3,16 @@
 //!
 //! It shows how a file is written (`writing`: describe the header, let `with_begins` say where the values of each variable begin, and write
 //! the header and the values to a sink) and how one is read (`reading`: open a variable by its name, and walk over its values in chunks
-//! that are lent out of one buffer).
+//! that are lent out of one buffer). `open` and `variable` find a variable in a header, and are proved to find the right one.
 #![tactic(auto)]
 
 mod failure;
+mod open;
 mod reading;
+#[cfg(test)]
+mod tests;
+mod variable;
+mod variable_fault;
 mod writing;
 
 use crate::failure::Failure;

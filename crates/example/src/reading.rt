@@ -1,9 +1,9 @@
 //! A variable of a file, read.
 
 use crate::failure::Failure;
+use crate::open::open_variable;
 use devices::Source;
 use nc_base::{NcType, number_of};
-use nc_variable::open_variable;
 use std::alloc::Global;
 use std::io::{self, Write};
 

@@ -1,10 +1,10 @@
 -- Definition. The text of a dataset, and the files that hold it.
 use Rattle.std.specs.Prelude.{ℕ, ◌≡◌, ◌<◌, [], length, map, slice_index_or, All, Some, None}
 use Rattle.std.specs.List.{concat}
-use Rattle.nc_base.specs.Bytes.{Bytes}
+use Rattle.nc_types.specs.Bytes.{Bytes}
 use Rattle.nc_base.specs.declared.{dataset.Dataset.Dataset, header.Header.Header, header.NumRecs.TheVariants.Known, header.Var.Var}
 use Rattle.nc_base.specs.Numbers.{numbers}
-use Rattle.nc_base.specs.Versions.{offset_limit}
+use Rattle.nc_types.specs.Versions.{offset_limit}
 use Rattle.nc_base.specs.Sizes.{record_count}
 use Rattle.nc_base.specs.Headers.{bare}
 use Rattle.nc_base.specs.Grammar.{SpellsHeader}

@@ -1,6 +1,6 @@
 -- Law. What holds of the file of a dataset.
 use Rattle.std.specs.Prelude.{◌≡◌, ◌↔◌}
-use Rattle.nc_base.specs.Bytes.{Bytes}
+use Rattle.nc_types.specs.Bytes.{Bytes}
 use Rattle.nc_base.specs.declared.dataset.Dataset.{Dataset}
 use Rattle.nc_base.specs.Headers.{IsGood}
 use Rattle.nc_base.specs.Datasets.{HoldsDataset, IsText, Fits}

@@ -1,9 +1,10 @@
 -- Definition. Fill values, and which types print them as `_`.
 use Rattle.std.specs.Prelude.{ℤ, Bool, true, false, ◌==◌, ◌&&◌, length, find, Option, Some, None, unwrap_or, if◌then◌else◌, codes}
 use Rattle.std.specs.Str.{bytes_eq}
-use Rattle.nc_base.specs.declared.{header.Att.Att, header.Var.Var, nc_type.NcType.NcType}
-use Rattle.nc_base.specs.declared.nc_type.NcType.TheVariants.{Byte, Char, Ubyte}
-use Rattle.nc_base.specs.Types.{code_of, size_of, default_fill_of}
+use Rattle.nc_base.specs.declared.{header.Att.Att, header.Var.Var}
+use Rattle.nc_types.specs.declared.{nc_type.NcType.NcType}
+use Rattle.nc_types.specs.declared.nc_type.NcType.TheVariants.{Byte, Char, Ubyte}
+use Rattle.nc_types.specs.Types.{code_of, size_of, default_fill_of}
 use Rattle.nc_base.specs.Numbers.{number_of}
 
 abbrev pub is_fill_att : Att → Bool

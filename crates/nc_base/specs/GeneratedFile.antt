@@ -3,10 +3,10 @@ use Rattle.std.specs.Prelude.{ℕ, ◌+◌, ◌*◌, ◌/◌, Bool, false, nat_l
 use Rattle.std.specs.List.{concat, flat_map, list_all, range_with_len}
 use Rattle.nc_base.specs.declared.{header.Dim.Dim, header.Var.Var, header.Header.Header, header.NumRecs.NumRecs, dataset.Dataset.Dataset}
 use Rattle.nc_base.specs.declared.header.NumRecs.TheVariants.{Known, Streaming}
-use Rattle.nc_base.specs.Bytes.{Bytes, padding_len}
-use Rattle.nc_base.specs.Types.{size_of}
+use Rattle.nc_types.specs.Bytes.{Bytes, padding_len}
+use Rattle.nc_types.specs.Types.{size_of}
 use Rattle.nc_base.specs.Numbers.{bytes_of_number}
-use Rattle.nc_base.specs.Versions.{offset_limit}
+use Rattle.nc_types.specs.Versions.{offset_limit}
 use Rattle.nc_base.specs.Sizes.{is_record_var, is_narrow, slab_size, padded_total, record_vars}
 use Rattle.nc_base.specs.Fill.{fill_value}
 use Rattle.nc_base.specs.Grammar.{header_spelling}

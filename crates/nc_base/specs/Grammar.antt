@@ -2,19 +2,19 @@
 -- Format Specification has for it, with what it says of padding in brackets. `Name ∶ p` puts a part under a step. `p is f` is one field of a
 -- whole: p spells it, and f finds it in a whole that is to be written. A sentence that begins with `Project:` is a rule of this project.
 -- What readers may differ in is a record of rules, which most parts take.
-use Rattle.std.specs.Prelude.{ℕ, zero, suc, ◌≡◌, ◌+◌, ◌*◌, ◌/◌, ◌^◌, ◌-◌, ◌==◌, ◌&&◌, ◌||◌, Bool, not, nat_lt, nat_le, if◌then◌else◌, List, [], ◌∷◌, ◌++◌, length, drop, replicate, codes, slice_index, Option, Some, None, Result, Ok, Err, ok_or}
+use Rattle.std.specs.Prelude.{ℕ, zero, suc, ◌≡◌, ◌+◌, ◌*◌, ◌/◌, ◌==◌, ◌&&◌, ◌||◌, Bool, not, nat_lt, nat_le, if◌then◌else◌, List, [], ◌∷◌, ◌++◌, length, drop, replicate, codes, slice_index, Option, Some, None, Result, Ok, Err, ok_or}
 use Rattle.std.specs.Int.{Width, w32, to_be_bytes, from_be_bytes, byte_len}
 use Rattle.std.specs.Str.{bytes_eq}
-use Rattle.nc_base.specs.declared.{fault.FormatFault.FormatFault, header.Att.Att, header.Dim.Dim, header.Var.Var, header.Header.Header, header.NumRecs.NumRecs, nc_type.NcType.NcType, version.Version.Version, version.Version.TheVariants.Cdf5}
+use Rattle.nc_base.specs.declared.{fault.FormatFault.FormatFault, header.Att.Att, header.Dim.Dim, header.Var.Var, header.Header.Header, header.NumRecs.NumRecs}
+use Rattle.nc_types.specs.declared.{nc_type.NcType.NcType, version.Version.Version}
 use Rattle.nc_base.specs.declared.fault.FormatFault.TheVariants.{NotNetcdf, UnknownVersion, HeaderTruncated, BadTag, BadCount, BadName, FloatingType, BadType, BadShape, TwoRecordDims, BadOffset, TooLarge}
 use Rattle.nc_base.specs.declared.header.NumRecs.TheVariants.{Known, Streaming}
-use Rattle.nc_base.specs.Bytes.{Bytes, padding_len}
-use Rattle.nc_base.specs.Types.{code_of, size_of, type_of_code}
-use Rattle.nc_base.specs.Versions.{version_byte, version_of_byte, count_width, offset_width, count_limit, offset_limit, streaming_mark, has_type}
-use Rattle.nc_base.specs.Names.{is_name}
+use Rattle.nc_types.specs.Bytes.{Bytes, padding_len}
+use Rattle.nc_types.specs.Types.{code_of, size_of, type_of_code}
+use Rattle.nc_types.specs.Versions.{version_byte, version_of_byte, count_width, offset_width, count_limit, offset_limit, streaming_mark, has_type, vsize_of}
+use Rattle.nc_types.specs.Names.{is_name}
 use Rattle.nc_base.specs.Sizes.{has_record_dim, is_record_dim, is_record_shape, slab_len, padded_size, padded_total, record_vars, slab_limit, record_limit}
-use Rattle.nc_base.specs.Parts.{Step, Part, done, bytes, decoded, under, chain, Spells, Stops, print}
-use Rattle.nc_base.specs.Parts.{Magic, VersionByte, Records, Dims, Gatts, Vars, Tag, Count, Item, Name, Length, Text, Padding, TypeCode, Values, Shape, Atts, Vsize, Begin}
+use Rattle.nc_base.specs.Parts.{Step, Part, done, bytes, decoded, under, chain, Spells, Stops, print, Magic, VersionByte, Records, Dims, Gatts, Vars, Tag, Count, Item, Name, Length, Text, Padding, TypeCode, Values, Shape, Atts, Vsize, Begin}
 
 -- ---- notation
 
@@ -210,11 +210,6 @@ record_bytes dims ids ty = if is_record_shape dims ids then slab_len dims ids ty
 -- before it have `total` bytes.
 abbrev pub is_within_limits : List Dim → ℕ → List ℕ → NcType → Bool
 is_within_limits dims total ids ty = nat_le (slab_len dims ids ty) slab_limit && nat_le (total + record_bytes dims ids ty) record_limit
-
--- vsize as it is written: the bytes of the padded slab, or in CDF-1 and CDF-2 2^32 - 1 if there are 2^32 or more
-abbrev pub vsize_of : Version → ℕ → ℕ
-vsize_of Cdf5 size = size
-vsize_of v size = if nat_lt size (2 ^ 32) then size else (2 ^ 32 - 1)
 
 -- var = name nelems [dimid ...] vatt_list nc_type vsize begin  (begin = OFFSET)
 -- Project: vsize may be any number. If a variable is too large, its type is the wrong field.

@@ -5,11 +5,12 @@ use Rattle.std.specs.Str.{byte}
 use Rattle.std.specs.Fmt.{signed_decimal}
 use Rattle.std.specs.List.{suffix_len}
 use Rattle.std.specs.Option.{option_map_or}
-use Rattle.nc_base.specs.declared.{header.Att.Att, header.Dim.Dim, header.Var.Var, header.Header.Header, nc_type.NcType.NcType, nc_type.NcType.TheVariants.Char}
-use Rattle.nc_base.specs.Bytes.{Bytes, concat_parts}
+use Rattle.nc_base.specs.declared.{header.Att.Att, header.Dim.Dim, header.Var.Var, header.Header.Header}
+use Rattle.nc_types.specs.declared.{nc_type.NcType.NcType, nc_type.NcType.TheVariants.Char}
+use Rattle.nc_types.specs.Bytes.{Bytes, concat_parts}
 use Rattle.nc_base.specs.Numbers.{numbers}
-use Rattle.nc_base.specs.Types.{type_word, number_suffix}
-use Rattle.nc_base.specs.Escapes.{escaped_name, escaped_in_string}
+use Rattle.nc_types.specs.Types.{type_word, number_suffix}
+use Rattle.nc_types.specs.Escapes.{escaped_name, escaped_in_string}
 
 -- ---- fixed words
 

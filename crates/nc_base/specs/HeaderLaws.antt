@@ -2,10 +2,10 @@
 -- `code/PartRuns.antt`, which the contracts of readers cite.)
 use Rattle.std.specs.Prelude.{◌≡◌, ◌<◌, ◌≤◌, ◌↔◌, ◌++◌, List, All, length, Ok, Err}
 use Rattle.nc_base.specs.declared.{fault.FormatFault.FormatFault, header.Header.Header, header.Var.Var}
-use Rattle.nc_base.specs.Bytes.{Bytes}
+use Rattle.nc_types.specs.Bytes.{Bytes}
 use Rattle.nc_base.specs.Headers.{IsSound, HasValidNames}
 use Rattle.nc_base.specs.Grammar.{SpellsHeader, header_spelling}
-use Rattle.nc_base.specs.Versions.{offset_limit}
+use Rattle.nc_types.specs.Versions.{offset_limit}
 use Rattle.nc_base.specs.Parts.{Step, Part, Spells, Stops, print}
 use Rattle.nc_base.specs.code.PartRuns.{run, place, StopsWith, IsPrintable}
 

@@ -1,11 +1,12 @@
 -- Definition. Sound headers, and good datasets.
 use Rattle.std.specs.Prelude.{ℕ, ◌≡◌, ◌*◌, ◌<◌, ◌≤◌, IsTrue, ◌==◌, List, [], ◌∷◌, ◌++◌, length, map, filter, All}
-use Rattle.nc_base.specs.declared.{header.Att.Att, header.Dim.Dim, header.Var.Var, header.Header.Header, header.NumRecs.NumRecs, dataset.Dataset.Dataset, version.Version.Version}
+use Rattle.nc_base.specs.declared.{header.Att.Att, header.Dim.Dim, header.Var.Var, header.Header.Header, header.NumRecs.NumRecs, dataset.Dataset.Dataset}
+use Rattle.nc_types.specs.declared.{version.Version.Version}
 use Rattle.nc_base.specs.declared.header.NumRecs.TheVariants.{Known, Streaming}
-use Rattle.nc_base.specs.Bytes.{Bytes, AreBytes}
-use Rattle.nc_base.specs.Types.{size_of}
-use Rattle.nc_base.specs.Versions.{count_limit, has_type}
-use Rattle.nc_base.specs.Names.{IsName}
+use Rattle.nc_types.specs.Bytes.{Bytes, AreBytes}
+use Rattle.nc_types.specs.Types.{size_of}
+use Rattle.nc_types.specs.Versions.{count_limit, has_type}
+use Rattle.nc_types.specs.Names.{IsName}
 use Rattle.nc_base.specs.Sizes.{is_record_dim, value_count, slab_size, record_size, slab_limit, array_limit, record_limit}
 
 -- the id is that of a dimension, and may follow these ids in a shape: the record dimension comes first, if at all

@@ -1,9 +1,9 @@
 -- Law. What holds of numbers and their bytes.
 use Rattle.std.specs.Prelude.{◌≡◌, ℤ, length, MatchBool, FitsSigned}
 use Rattle.std.specs.Int.{FitsUnsigned}
-use Rattle.nc_base.specs.declared.nc_type.NcType.{NcType}
-use Rattle.nc_base.specs.Bytes.{Bytes, AreBytes}
-use Rattle.nc_base.specs.Types.{width_of, size_of, is_signed}
+use Rattle.nc_types.specs.declared.nc_type.NcType.{NcType}
+use Rattle.nc_types.specs.Bytes.{Bytes, AreBytes}
+use Rattle.nc_types.specs.Types.{width_of, size_of, is_signed}
 use Rattle.nc_base.specs.Numbers.{number_of, bytes_of_number}
 
 -- the number is in the range of the type

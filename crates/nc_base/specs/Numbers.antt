@@ -1,9 +1,9 @@
 -- Definition. Values as big-endian numbers, the signed ones in two's complement.
 use Rattle.std.specs.Prelude.{ℕ, zero, suc, ◌/◌, ℤ, pos, List, [], ◌∷◌, length, take, drop, if◌then◌else◌}
 use Rattle.std.specs.Int.{to_be_bytes, from_be_bytes, cast_signed, cast_unsigned}
-use Rattle.nc_base.specs.Bytes.{Bytes}
-use Rattle.nc_base.specs.declared.nc_type.NcType.{NcType}
-use Rattle.nc_base.specs.Types.{width_of, size_of, is_signed}
+use Rattle.nc_types.specs.Bytes.{Bytes}
+use Rattle.nc_types.specs.declared.nc_type.NcType.{NcType}
+use Rattle.nc_types.specs.Types.{width_of, size_of, is_signed}
 
 -- the number that these bytes spell; there are as many of them as a value of the type has
 abbrev pub number_of : NcType → Bytes → ℤ

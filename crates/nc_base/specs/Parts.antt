@@ -2,7 +2,7 @@
 -- (`Spells`), which field is the first wrong one (`Stops`), and how a value is written (`print`).
 use Rattle.std.specs.Prelude.{ℕ, ◌≡◌, ◌<◌, ◌⊎◌, List, [], ◌∷◌, ◌++◌, length, Option, Some, None, Result, Ok, Err}
 use Rattle.nc_base.specs.declared.fault.FormatFault.{FormatFault}
-use Rattle.nc_base.specs.Bytes.{Bytes}
+use Rattle.nc_types.specs.Bytes.{Bytes}
 
 -- a step on the way to a field
 pub data Step : Type 0 where

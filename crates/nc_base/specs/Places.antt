@@ -1,9 +1,9 @@
 -- Definition. Where the values of a variable lie in a file, and which of them the file has.
 use Rattle.std.specs.Prelude.{ℕ, ◌+◌, ◌*◌, nat_lt, Bool, ℤ, if◌then◌else◌, List, [], ◌∷◌, length, map, take, drop, Option}
 use Rattle.std.specs.List.{flat_map, position, range_with_len}
-use Rattle.nc_base.specs.Bytes.{Bytes}
+use Rattle.nc_types.specs.Bytes.{Bytes}
 use Rattle.nc_base.specs.declared.{header.Dim.Dim, header.Var.Var, header.Header.Header}
-use Rattle.nc_base.specs.Types.{size_of}
+use Rattle.nc_types.specs.Types.{size_of}
 use Rattle.nc_base.specs.Numbers.{number_of}
 use Rattle.nc_base.specs.Sizes.{is_record_var, slab_lens, product, record_size}
 

@@ -1,6 +1,6 @@
 -- Definition. The dataset whose text is read back, and the one that it is read back as.
 use Rattle.std.specs.Prelude.{◌≡◌, ◌<◌, true, false, List, [], ◌∷◌, length, map, All, if◌then◌else◌}
-use Rattle.nc_base.specs.Bytes.{Bytes}
+use Rattle.nc_types.specs.Bytes.{Bytes}
 use Rattle.nc_base.specs.declared.{dataset.Dataset.Dataset, header.Att.Att, header.Dim.Dim, header.Header.Header, header.NumRecs.TheVariants.Known, header.Var.Var}
 use Rattle.nc_base.specs.Dump.{has_name}
 use Rattle.nc_base.specs.Fill.{fill_value}

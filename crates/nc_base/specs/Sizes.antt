@@ -2,10 +2,11 @@
 -- one record. Of any other variable it is all that the variable has.
 use Rattle.std.specs.Prelude.{ℕ, ◌+◌, ◌-◌, ◌*◌, ◌/◌, ◌^◌, min, Bool, false, nat_lt, ◌==◌, ◌&&◌, if◌then◌else◌, List, [], ◌∷◌, length, map, filter, drop, slice_index, sum}
 use Rattle.std.specs.List.{list_any}
-use Rattle.nc_base.specs.declared.{header.Dim.Dim, header.Var.Var, header.Header.Header, header.NumRecs.NumRecs, nc_type.NcType.NcType}
+use Rattle.nc_base.specs.declared.{header.Dim.Dim, header.Var.Var, header.Header.Header, header.NumRecs.NumRecs}
+use Rattle.nc_types.specs.declared.{nc_type.NcType.NcType}
 use Rattle.nc_base.specs.declared.header.NumRecs.TheVariants.{Known, Streaming}
-use Rattle.nc_base.specs.Bytes.{padding_len}
-use Rattle.nc_base.specs.Types.{size_of}
+use Rattle.nc_types.specs.Bytes.{padding_len}
+use Rattle.nc_types.specs.Types.{size_of}
 
 abbrev pub dim_len : List Dim → ℕ → ℕ
 dim_len dims id = slice_index (map (λ (d : Dim). d.len) dims) id

@@ -1,6 +1,5 @@
 pub mod SizeParts
 pub mod SoundParts
-pub mod Quoted
 pub mod OwedValues
 pub mod ListedRows
 pub mod Weight

@@ -1,7 +1,7 @@
 //! A dataset: a header and the values of its variables.
 
 use crate::header::Header;
-use crate::sequence::Sequence;
+use nc_types::Sequence;
 
 /// A dataset, apart from where a file keeps its values.
 #[derive(Debug, Drop)]

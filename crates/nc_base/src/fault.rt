@@ -65,7 +65,7 @@ impl fmt::Display for FormatFault {
 
     /// Writes the words for the fault, such as `bad tag`, or `unknown version 7` with the version byte in decimal. The fault lines of
     /// `ncdump` have the same words.
-    #[tactic(auto, unfolding(crate::specs::FaultWords::format_text, crate::specs::Bytes::concat_parts))]
+    #[tactic(auto, unfolding(crate::specs::FaultWords::format_text, nc_types::specs::Bytes::concat_parts))]
     fn fmt<W: fmt::Write>(&self, f: &mut fmt::Formatter<W>) -> fmt::Result {
         match self {
             FormatFault::UnknownVersion(byte) => write!(f, "{}{byte}", self.words()),

@@ -5,8 +5,8 @@ ghost use Rattle.nc_base.specs.Fill.{fill_value, prints_fill, is_fill_att, has_o
 ghost use Rattle.nc_base.specs.NumberLaws.{IsInRange};
 
 use crate::header::{Att, Var};
-use crate::nc_type::NcType;
 use crate::number::number_of;
+use nc_types::NcType;
 
 /// Returns the fill value of a variable, as a number in the range of its type. If the variable's first attribute named `_FillValue` has the
 /// variable's type and exactly one value, the result is that value (attribute conventions of the NetCDF User's Guide). Otherwise the result

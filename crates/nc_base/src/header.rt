@@ -1,8 +1,6 @@
 //! The header of a file: its dimensions, attributes and variables.
 
-use crate::nc_type::NcType;
-use crate::sequence::Sequence;
-use crate::version::Version;
+use nc_types::{NcType, Sequence, Version};
 
 /// A dimension (`dim` of the NetCDF Classic Format Specification).
 #[derive(Debug, Drop)]

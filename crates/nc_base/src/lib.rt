@@ -1,9 +1,9 @@
 //! What a netCDF classic file, a dataset and its CDL text are.
 //!
-//! This crate has the types of headers and datasets, and what follows from them alone: the type table, what differs between
-//! the versions of the format, the rule on names, the fill value of a variable and the stem of a path. `specs/` has the
-//! definitions that the contracts of all crates cite: the grammar of a header, its first wrong field, sizes, fill values,
-//! escapes and the text of a dump. This is the lowest crate, and nothing in it reads or writes a device.
+//! This crate has headers and datasets, and what follows from them alone: sizes, the rule on names, the fill value of a
+//! variable and the stem of a path. It passes on the types and versions of `nc_types`. `specs/` has the definitions that the
+//! contracts of all crates above cite: the grammar of a header, its first wrong field, sizes, fill values and the text of a
+//! dump. Nothing in it reads or writes a device.
 //!
 //! ```
 //! let mut name = Sequence::new(alloc);
@@ -23,7 +23,6 @@
 #![tactic(auto)]
 
 mod dataset;
-mod escape;
 mod fault;
 mod fill;
 mod header;
@@ -31,31 +30,27 @@ pub mod laws;
 mod listed_array;
 mod name;
 mod named;
-mod nc_type;
 mod number;
 mod path;
-mod sequence;
 mod sizes;
 mod sound;
-mod version;
 mod weights;
 
 pub use dataset::Dataset;
-pub use escape::{Escape, Quoting, begins_with_digit_or_mark, is_reserved};
 pub use fault::FormatFault;
 pub use fill::{fill_of, prints_fill};
 pub use header::{Att, Dim, Header, NumRecs, Var};
 pub use listed_array::{ListedArray, Run};
 pub use name::check_name;
 pub use named::Named;
-pub use nc_type::NcType;
+pub use nc_types::{
+    Escape, NcType, Quoting, Sequence, Version, begins_with_digit_or_mark, is_reserved,
+};
 pub use number::number_of;
 pub use path::stem;
-pub use sequence::Sequence;
 pub use sizes::{
     RECORD_LIMIT, RecordLayout, dim_len, extent_end, is_record_dim, is_record_shape, is_record_var,
     padding_len, rec_size, record_layout, records, slab_bytes, slab_len, sound_record_size,
     value_count,
 };
-pub use version::Version;
 pub use weights::weight;

@@ -3,7 +3,7 @@
 ghost use Rattle.std.specs.Prelude.{◌≡◌, ◌<◌, length};
 ghost use Rattle.std.specs.List.{list_all};
 ghost use Rattle.std.specs.Str.{is_utf8};
-ghost use Rattle.nc_base.specs.Names.{is_name, has_name_bytes, ends_with_space, may_begin_name, may_follow_in_name};
+ghost use Rattle.nc_types.specs.Names.{is_name, has_name_bytes, ends_with_space, may_begin_name, may_follow_in_name};
 
 /// Returns true if the bytes are a name that a dimension, a variable or an attribute may have (`name` of the NetCDF Classic Format
 /// Specification). Such a name is UTF-8, isn't empty, and doesn't end with a space. It begins with a letter, a digit, `_` or a character

@@ -3,7 +3,7 @@
 ghost use Rattle.std.specs.Prelude.{◌≡◌, List, ℕ};
 
 use crate::header::{Att, Dim, Var};
-use crate::sequence::Sequence;
+use nc_types::Sequence;
 
 /// An item that has a name: a dimension, an attribute, a variable, or a name itself. Code that looks up names takes a list of any of these.
 pub trait Named {

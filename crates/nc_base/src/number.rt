@@ -3,9 +3,9 @@
 ghost use Rattle.std.specs.Prelude.{◌≡◌, length};
 ghost use Rattle.nc_base.specs.NumberLaws.{IsInRange};
 ghost use Rattle.nc_base.specs.Numbers.{number_of};
-ghost use Rattle.nc_base.specs.Types.{size_of};
+ghost use Rattle.nc_types.specs.Types.{size_of};
 
-use crate::nc_type::NcType;
+use nc_types::NcType;
 
 /// Returns the number that `bytes` spell: big-endian, and in two's complement if the type `ty` has a sign (NetCDF Classic Format
 /// Specification). It is in the range of the type, for a character 0 to 255. Needs exactly the bytes of one value of this type.

@@ -1,17 +1,16 @@
 //! The sizes of slabs and of records, the number of records, and where a variable ends.
 
 ghost use Rattle.std.specs.Prelude.{◌≡◌, ◌+◌, ◌*◌, ◌/◌, ◌<◌, ◌≤◌, ◌^◌, ◌&&◌, IfSome, if◌then◌else◌, length, map, min, slice_get, SomeIff};
-ghost use Rattle.nc_base.specs.Types.{size_of};
-ghost use Rattle.nc_base.specs.Bytes.{padding_len};
-ghost use Rattle.nc_base.specs.Sizes.{slab_len, dim_len, is_record_dim, is_record_shape, is_record_var, is_narrow, product, slab_size, padded_size, slab_limit, record_size, record_limit, record_vars, record_count};
+ghost use Rattle.nc_types.specs.Types.{size_of};
+ghost use Rattle.nc_types.specs.Bytes.{padding_len};
+ghost use Rattle.nc_base.specs.Sizes.{slab_len, dim_len, is_record_dim, is_record_shape, is_record_var, is_narrow, product, slab_size, padded_size, slab_limit, record_size, record_limit, record_vars, record_count, value_count};
 ghost use Rattle.nc_base.specs.code.SizeParts.{slab_at, checked_record_size, extent_sum, least_record_begin, min_begin, CountsValues, IsCappedSlab};
 ghost use Rattle.nc_base.specs.GeneratedFile.{known_records};
 ghost use Rattle.nc_base.specs.code.Extents.{extent_end};
 ghost use Rattle.nc_base.specs.Headers.{IsSound};
-ghost use Rattle.nc_base.specs.Sizes.{value_count};
 
 use crate::header::{Dim, Header, NumRecs, Var};
-use crate::nc_type::NcType;
+use nc_types::NcType;
 
 /// The greatest slab in bytes: 2^48.
 const SLAB_LIMIT: u64 = 1 << 48;

@@ -1,7 +1,7 @@
 //! The limits that the counts and sizes of a header keep.
 
 ghost use Rattle.std.specs.Prelude.{◌≡◌, ◌<◌, ◌≤◌, ◌==◌, ◌↔◌, [], length, filter, IsTrue};
-ghost use Rattle.nc_base.specs.Versions.{count_limit};
+ghost use Rattle.nc_types.specs.Versions.{count_limit};
 ghost use Rattle.std.specs.List.{list_all, count_by};
 ghost use Rattle.nc_base.specs.Sizes.{slab_len, slab_limit, record_size, record_limit};
 ghost use Rattle.nc_base.specs.code.SizeParts.{is_fixed_dim};
@@ -9,9 +9,8 @@ ghost use Rattle.nc_base.specs.code.SoundParts.{AreSoundAtts, AreSoundDims, AreS
 ghost use Rattle.nc_base.specs.Headers.{IsSoundNumRecs, IsSoundDim, IsSoundAtt, IsSoundVar, AreDimids, HasWholeValues};
 
 use crate::header::{Att, Dim, Header, NumRecs, Var};
-use crate::nc_type::NcType;
 use crate::sizes::{is_record_dim, rec_size, slab_len};
-use crate::version::Version;
+use nc_types::{NcType, Version};
 
 impl Header {
     ghost use Rattle.nc_base.specs.Headers.{IsSound};

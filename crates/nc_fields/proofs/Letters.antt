@@ -3,9 +3,9 @@ use Rattle.nc_fields.proofs.Prelude.{take_min, drop_min, bytes_eq, Magic, Caused
 use Rattle.std.proofs.lemmas.Bool.Decides.{nat_tests}
 use Rattle.std.proofs.lemmas.Grind.{common_steps}
 use Rattle.std.specs.Cmp.Lexicographic.{bytes_decides}
-use Rattle.nc_fields.specs.declared.entry.Content.TheVariants as content
-use Rattle.nc_fields.specs.declared.place.Owner.TheVariants as owner
-use Rattle.nc_fields.specs.declared.place.FieldKind.TheVariants as field
+use Rattle.nc_findings.specs.declared.entry.Content.TheVariants as content
+use Rattle.nc_findings.specs.declared.place.Owner.TheVariants as owner
+use Rattle.nc_findings.specs.declared.place.FieldKind.TheVariants as field
 use Rattle.nc_fields.proofs.Checks.{IsField, bytes-field, decoded-field, fault_in, seen_at, one-more, listed-one, listed-memory, with_fault-last, Stopped, stopped}
 
 -- what the letters are judged by

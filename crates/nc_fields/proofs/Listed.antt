@@ -1,9 +1,8 @@
 -- What a listing says of the bytes of a source.
 use Rattle.nc_fields.proofs.Prelude.{Ghosts, Window, Reader, Header, HeadFault, Format, OutOfMemory, ReadFailed, Checked, source_of, left, OnTrue, OnTrue_at, OnTrue_from, lenient, Seen, seen, seen_by, listed, fields, Outcome, run, Kept, next_of, length-drop, header_by, Listing, ListFault, ◌≡◌, ℕ, ◌+◌, List, [], drop, length, map, Result, Ok, Err, IfOk, sym, ap, subst, arith, ◌∙◌}
 use Rattle.nc_base.proofs.PartOutcomes.{Tells, tells}
-use Rattle.nc_file.specs.code.Window.{IsNew}
+use Rattle.nc_window.specs.code.Window.{IsNew, ReadUpTo}
 use Rattle.nc_fields.specs.Listings.{Blames, IsListing}
-use Rattle.nc_file.specs.code.Answers.{ReadUpTo}
 use Rattle.nc_fields.specs.code.Answers.{Answers}
 
 module _ {S : Type 0} {g : Ghosts S} where

@@ -1,6 +1,6 @@
 -- The fields that are one number.
 use Rattle.nc_fields.proofs.Prelude.{Bytes, number, Place, Number, number_in, IsNumeric, Step, Cut, steps_of, whole_content, cut_content, byte_len, from_be_bytes, Magic, kept_letters, NumberWidth, ◌≡◌, ℕ, List, ◌∷◌, take, refl, ap, ◌∙◌}
-use Rattle.nc_fields.specs.declared.entry.Content.TheVariants as content
+use Rattle.nc_findings.specs.declared.entry.Content.TheVariants as content
 use Rattle.nc_fields.specs.declared.number.NumberWidth.TheVariants.{Four, Eight}
 use Rattle.nc_fields.specs.code.Numbers.{width_of}
 use Rattle.nc_fields.proofs.Checks.{IsFieldOf, number-matters}

@@ -1,8 +1,8 @@
 -- The fields that are bytes.
 use Rattle.nc_fields.proofs.Prelude.{Ghosts, Window, HeadFault, Read, Outcome, left_after, OnTrue_at, OnTrue_from, IsHeld, Bytes, bytes, HeaderTruncated, Place, Number, IsFilling, ignored, Reader, Step, Checked, ends_with_nul, Owner, in_place, ℕ, List, Result, Ok, Err, subst, sym, ap, arith, refl, slice_index}
-use Rattle.nc_fields.specs.declared.entry.Content.TheVariants as content
-use Rattle.nc_fields.specs.declared.place.Owner.TheVariants as owner
-use Rattle.nc_fields.specs.declared.place.FieldKind.TheVariants as field
+use Rattle.nc_findings.specs.declared.entry.Content.TheVariants as content
+use Rattle.nc_findings.specs.declared.place.Owner.TheVariants as owner
+use Rattle.nc_findings.specs.declared.place.FieldKind.TheVariants as field
 use Rattle.nc_fields.proofs.Checks.{IsFieldOf, Matters, bytes-listed, part_lists}
 
 -- bytes that were read are held, unless memory runs out

@@ -3,13 +3,13 @@ use Rattle.std.specs.Prelude.{ℕ, ◌==◌, ◌&&◌, ◌-◌, Bool, nat_lt, if
 use Rattle.std.specs.Int.{w32, w64, from_be_bytes}
 use Rattle.std.specs.Str.{bytes_eq}
 use Rattle.nc_base.specs.declared.fault.FormatFault.{FormatFault}
-use Rattle.nc_base.specs.Bytes.{Bytes}
-use Rattle.nc_base.specs.Parts.{Step}
-use Rattle.nc_base.specs.Parts.{Magic, VersionByte, Records, Dims, Gatts, Vars, Tag, Count, Item, Name, Length, Text, Padding, TypeCode, Values, Shape, Atts, Vsize, Begin}
-use Rattle.nc_fields.specs.declared.{place.Owner.Owner, place.FieldKind.FieldKind, place.Place.Place, entry.Content.Content, entry.Entry.Entry}
-use Rattle.nc_fields.specs.declared.place.Owner.TheVariants as owner
-use Rattle.nc_fields.specs.declared.place.FieldKind.TheVariants as field
-use Rattle.nc_fields.specs.declared.entry.Content.TheVariants as content
+use Rattle.nc_types.specs.Bytes.{Bytes}
+use Rattle.nc_base.specs.Parts.{Step, Magic, VersionByte, Records, Dims, Gatts, Vars, Tag, Count, Item, Name, Length, Text, Padding, TypeCode, Values, Shape, Atts, Vsize, Begin}
+use Rattle.nc_findings.specs.declared.{place.Owner.Owner, place.FieldKind.FieldKind, place.Place.Place, entry.Content.Content, entry.Entry.Entry}
+use Rattle.nc_findings.specs.declared.place.Owner.TheVariants as owner
+use Rattle.nc_findings.specs.declared.place.FieldKind.TheVariants as field
+use Rattle.nc_findings.specs.declared.entry.Content.TheVariants as content
+use Rattle.nc_findings.specs.Contents.{hdf5_signature}
 use Rattle.nc_fields.specs.Fields.{Field}
 
 -- ---- places
@@ -62,10 +62,6 @@ number_in size bytes = if size == 8 then from_be_bytes w64 bytes else (if size =
 abbrev pub ends_with_nul : Bytes → Bool
 ends_with_nul bytes = nat_lt 0 (length bytes) && (slice_index bytes (length bytes - 1) == 0)
 
--- the first bytes of an HDF5 file
-abbrev pub hdf5_signature : Bytes
-hdf5_signature = 0x89 ∷ 0x48 ∷ 0x44 ∷ 0x46 ∷ 0x0d ∷ 0x0a ∷ 0x1a ∷ 0x0a ∷ []
-
 -- what is kept of the start of a file: that signature, or else three bytes, or as many as there are
 abbrev pub kept_letters : Bytes → Bytes
 kept_letters file = if bytes_eq hdf5_signature (take 8 file) then hdf5_signature else take 3 file
@@ -82,11 +78,6 @@ whole_content steps size start = content.Number (number_in size (take size start
 abbrev pub cut_content : List Step → Bytes → Content
 cut_content (Magic ∷ steps) bytes = content.Bytes bytes
 cut_content steps bytes = content.Cut
-
--- the number that a field is (0, if it is none)
-abbrev pub number_of : Content → ℕ
-number_of (content.Number n) = n
-number_of c = 0
 
 -- ---- entries
 

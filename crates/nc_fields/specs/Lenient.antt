@@ -1,11 +1,12 @@
 -- Definition. The rules of a header whose attributes' values aren't kept: what `Grammar.strict` refuses, and reading goes on all the same.
 use Rattle.std.specs.Prelude.{ℕ, ◌==◌, ◌^◌, ◌&&◌, not, Bool, nat_lt, nat_le, if◌then◌else◌, [], length, take, drop, take_while, Result, Ok}
 use Rattle.std.specs.List.{list_all}
-use Rattle.nc_base.specs.declared.{fault.FormatFault.FormatFault, nc_type.NcType.NcType, version.Version.Version}
-use Rattle.nc_base.specs.declared.nc_type.NcType.TheVariants.{Int, Int64}
-use Rattle.nc_base.specs.declared.version.Version.TheVariants.{Cdf5}
-use Rattle.nc_base.specs.Bytes.{Bytes}
-use Rattle.nc_base.specs.Versions.{count_limit}
+use Rattle.nc_base.specs.declared.{fault.FormatFault.FormatFault}
+use Rattle.nc_types.specs.declared.{nc_type.NcType.NcType, version.Version.Version}
+use Rattle.nc_types.specs.declared.nc_type.NcType.TheVariants.{Int, Int64}
+use Rattle.nc_types.specs.declared.version.Version.TheVariants.{Cdf5}
+use Rattle.nc_types.specs.Bytes.{Bytes}
+use Rattle.nc_types.specs.Versions.{count_limit}
 use Rattle.nc_base.specs.Grammar.{Rules, type_in}
 
 -- a byte that may stand in a name in any coding: no control character of ASCII

@@ -1,14 +1,14 @@
 -- Definition. The listing of a header's fields.
 use Rattle.std.specs.Prelude.{◌+◌, ℕ, ◌≡◌, [], length, map, Result, Ok, Err}
 use Rattle.nc_base.specs.declared.{fault.FormatFault.FormatFault, header.Header.Header}
-use Rattle.nc_base.specs.Bytes.{Bytes}
+use Rattle.nc_types.specs.Bytes.{Bytes}
 use Rattle.nc_base.specs.Grammar.{header_by}
 use Rattle.nc_base.specs.Parts.{Spells}
 use Rattle.nc_base.specs.code.PartRuns.{StopsWith}
 use Rattle.devices.specs.Failures.{HasFailed}
 use Rattle.devices.specs.Sources.{SourceView}
-use Rattle.nc_fields.specs.declared.{header.Listing.Listing, list_fault.ListFault.ListFault}
-use Rattle.nc_fields.specs.declared.list_fault.ListFault.TheVariants.{ReadFailed}
+use Rattle.nc_findings.specs.declared.{listing.Listing.Listing, list_fault.ListFault.ListFault}
+use Rattle.nc_findings.specs.declared.list_fault.ListFault.TheVariants.{ReadFailed}
 use Rattle.nc_fields.specs.Fields.{fields}
 use Rattle.nc_fields.specs.Entries.{seen, seen_by}
 use Rattle.nc_fields.specs.Lenient.{lenient}

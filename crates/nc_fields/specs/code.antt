@@ -3,4 +3,3 @@ pub mod Lists
 pub mod Answers
 pub mod PassedValues
 pub mod Numbers
-pub mod FaultTexts

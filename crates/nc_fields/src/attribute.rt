@@ -8,13 +8,12 @@ ghost use Rattle.nc_fields.specs.Lenient.{lenient};
 ghost use Rattle.nc_fields.specs.code.Lists.{list_steps};
 ghost use Rattle.nc_fields.specs.code.PassedValues.{ChecksValues, PassesValues};
 
-use crate::entry::Content;
 use crate::fields::{FieldReader, pending_field};
 use crate::list_name::HeaderList;
-use crate::place::{FieldKind, Owner};
 use devices::Source;
 use nc_base::{Att, Sequence, Version, padding_len};
-use nc_file::{HeadFault, Window};
+use nc_findings::{Content, FieldKind, Owner};
+use nc_window::{HeadFault, Window};
 
 /// The tag of a list of attributes (`NC_ATTRIBUTE`).
 const NC_ATTRIBUTE: u64 = 12;

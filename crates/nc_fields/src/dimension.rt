@@ -7,10 +7,10 @@ ghost use Rattle.nc_fields.specs.Lenient.{lenient};
 
 use crate::fields::FieldReader;
 use crate::list_name::HeaderList;
-use crate::place::Owner;
 use devices::Source;
 use nc_base::{Dim, Sequence, Version};
-use nc_file::{HeadFault, Window};
+use nc_findings::Owner;
+use nc_window::{HeadFault, Window};
 
 /// The tag of a list of dimensions (`NC_DIMENSION`).
 const NC_DIMENSION: u64 = 10;

@@ -3,11 +3,10 @@
 ghost use Rattle.std.specs.Prelude.{◌≡◌, ◌++◌, ◌∷◌, [], OnOk};
 ghost use Rattle.nc_fields.specs.code.Checks.{IsStart};
 
-use crate::entry::{Content, Entry};
-use crate::place::Place;
 use devices::Source;
 use nc_base::Sequence;
-use nc_file::{HeadFault, Window};
+use nc_findings::{Content, Entry, Place};
+use nc_window::{HeadFault, Window};
 use std::alloc::{AllocError, Global};
 
 /// The field list: the fields of a header that were read so far, each with its place, its offset and what is kept of its content.

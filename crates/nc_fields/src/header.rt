@@ -7,40 +7,25 @@ ghost use Rattle.nc_base.specs.Grammar.{checked, header_by, magic_part, version_
 ghost use Rattle.nc_base.specs.Parts.{Magic, VersionByte, bytes};
 ghost use Rattle.nc_base.specs.declared.fault.FormatFault.TheVariants.{HeaderTruncated, NotNetcdf};
 ghost use Rattle.nc_fields.specs.Lenient.{lenient};
-ghost use Rattle.nc_file.specs.declared.head_fault.HeadFault.TheVariants.{Format};
-ghost use Rattle.nc_file.specs.code.Answers.{ReadUpTo};
-ghost use Rattle.nc_file.specs.code.Window.{HasRoom, left};
-ghost use Rattle.nc_fields.specs.Entries.{hdf5_signature, seen_by};
+ghost use Rattle.nc_window.specs.declared.head_fault.HeadFault.TheVariants.{Format};
+ghost use Rattle.nc_window.specs.code.Window.{HasRoom, left, ReadUpTo};
+ghost use Rattle.nc_fields.specs.Entries.{seen_by};
+ghost use Rattle.nc_findings.specs.Contents.{hdf5_signature};
 ghost use Rattle.nc_fields.specs.Listings.{Blames, IsListing};
 ghost use Rattle.nc_fields.specs.code.Answers.{Answers};
 ghost use Rattle.nc_fields.specs.code.Checks.{with_fault};
 
-use crate::entry::{Content, Entry};
-use crate::field_bytes::FieldBytes;
 use crate::fields::{FieldReader, pending_field};
-use crate::list_fault::ListFault;
 use crate::list_name::HeaderList;
 use crate::name::filling_bytes;
-use crate::place::{FieldKind, Owner};
-use crate::signature::{HDF5_SIGNATURE, is_hdf5_next};
+use crate::signature::is_hdf5_next;
 use devices::Source;
 use nc_base::{FormatFault, Header, Sequence, Version};
-use nc_file::{HeadFault, Window};
+use nc_findings::{
+    Content, Entry, FieldBytes, FieldKind, HDF5_SIGNATURE, ListFault, Listing, Owner,
+};
+use nc_window::{HeadFault, Window};
 use std::alloc::{AllocError, Global};
-
-/// The fields of a header, and the header itself.
-#[derive(Debug, Drop)]
-pub struct Listing {
-    /// The fields in the order of the file; if the header is wrong, up to its first wrong field.
-    pub entries: Sequence<Entry>,
-    /// The header, without the values of attributes, or what is wrong with its first wrong field. In place of a floating type it has the
-    /// integer type of the same size, which its version may lack.
-    pub header: Result<Header, FormatFault>,
-    /// The offset at which the header ends or, if it is wrong, at which its first wrong field ends.
-    pub end: u64,
-    /// The length of the file in bytes.
-    pub file_len: u64,
-}
 
 /// The fields for which there is room in the first allocation of a listing: those of a header of a few variables.
 const FEW_FIELDS: usize = 128;

@@ -8,22 +8,16 @@
 
 mod attribute;
 mod dimension;
-mod entry;
-mod field_bytes;
 mod fields;
 mod header;
 mod list;
-mod list_fault;
 mod list_name;
 mod name;
 mod number;
-mod place;
 mod signature;
 mod variable;
 
-pub use entry::{Content, Entry};
-pub use field_bytes::FieldBytes;
-pub use header::{Listing, list_fields};
-pub use list_fault::ListFault;
-pub use place::{FieldKind, Owner, Place};
-pub use signature::HDF5_SIGNATURE;
+pub use header::list_fields;
+pub use nc_findings::{
+    Content, Entry, FieldBytes, FieldKind, HDF5_SIGNATURE, ListFault, Listing, Owner, Place,
+};

@@ -8,7 +8,7 @@ use crate::fields::FieldReader;
 use crate::list_name::HeaderList;
 use devices::Source;
 use nc_base::Version;
-use nc_file::{HeadFault, Window};
+use nc_window::{HeadFault, Window};
 
 impl FieldReader {
     ghost use Rattle.nc_fields.specs.code.Checks.{at, Checked};

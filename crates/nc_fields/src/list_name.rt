@@ -1,6 +1,6 @@
 //! The lists of a header.
 
-use crate::place::{FieldKind, Owner, Place};
+use nc_findings::{FieldKind, Owner, Place};
 
 /// A list of a header.
 #[derive(Clone, Copy)]

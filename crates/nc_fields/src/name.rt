@@ -5,17 +5,15 @@ ghost use Rattle.std.specs.List.{list_all};
 ghost use Rattle.nc_base.specs.Grammar.{checked, ignored, name_part};
 ghost use Rattle.nc_base.specs.Parts.{Name, Text, bytes};
 ghost use Rattle.nc_base.specs.declared.fault.FormatFault.TheVariants.{BadName, HeaderTruncated};
-ghost use Rattle.nc_file.specs.code.Window.{Read};
+ghost use Rattle.nc_window.specs.code.Window.{Read};
 ghost use Rattle.nc_fields.specs.code.Checks.{IsHeld};
 ghost use Rattle.nc_fields.specs.Lenient.{is_no_control, len_before_nul, lenient, may_be_name};
 
-use crate::entry::Content;
-use crate::field_bytes::FieldBytes;
 use crate::fields::{FieldReader, pending_field};
-use crate::place::{FieldKind, Owner, Place};
 use devices::Source;
 use nc_base::{FormatFault, Sequence, Version, padding_len};
-use nc_file::{HeadFault, Window};
+use nc_findings::{Content, FieldBytes, FieldKind, Owner, Place};
+use nc_window::{HeadFault, Window};
 use std::alloc::Global;
 
 impl FieldReader {

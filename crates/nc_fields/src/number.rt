@@ -4,18 +4,17 @@ ghost use Rattle.std.specs.Prelude.{◌≡◌, [], ◌∷◌, ◌==◌, ◌&&◌
 ghost use Rattle.std.specs.Int.{byte_len, w32};
 ghost use Rattle.nc_base.specs.Grammar.{checked, count_part, dimid_part, number, limited_part, numrecs_part, offset_part, type_part};
 ghost use Rattle.nc_base.specs.Parts.{Begin, Item, Length, Records, Shape, TypeCode};
-ghost use Rattle.nc_base.specs.Versions.{count_limit, count_width, offset_width};
+ghost use Rattle.nc_types.specs.Versions.{count_limit, count_width, offset_width};
 ghost use Rattle.nc_base.specs.declared.fault.FormatFault.TheVariants.{BadCount, BadTag, TwoRecordDims};
-ghost use Rattle.nc_file.specs.code.Window.{Read};
+ghost use Rattle.nc_window.specs.code.Window.{Read};
 ghost use Rattle.nc_fields.specs.Lenient.{any_length_limit, lenient, sized_type_in};
 ghost use Rattle.nc_fields.specs.code.Numbers.{width_of};
 
-use crate::entry::Content;
 use crate::fields::{FieldReader, pending_field};
-use crate::place::{FieldKind, Owner, Place};
 use devices::Source;
 use nc_base::{Dim, FormatFault, NcType, NumRecs, Version};
-use nc_file::{HeadFault, Window, is_dimid, type_in};
+use nc_findings::{Content, FieldKind, Owner, Place};
+use nc_window::{HeadFault, Window, is_dimid, type_in};
 
 /// How many bytes a number has.
 #[derive(Clone, Copy)]

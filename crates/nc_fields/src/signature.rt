@@ -3,15 +3,13 @@
 ghost use Rattle.std.specs.Prelude.{◌≡◌, take, IfOk, IfErr};
 ghost use Rattle.std.specs.Bool.{OnTrue};
 ghost use Rattle.std.specs.Str.{bytes_eq};
-ghost use Rattle.nc_file.specs.code.Window.{FailsOnly, HasRoom, Kept, held, left, next_of};
-ghost use Rattle.nc_file.specs.declared.head_fault.HeadFault.TheVariants.{ReadFailed};
-ghost use Rattle.nc_fields.specs.Entries.{hdf5_signature};
+ghost use Rattle.nc_window.specs.code.Window.{FailsOnly, HasRoom, Kept, held, left, next_of};
+ghost use Rattle.nc_window.specs.declared.head_fault.HeadFault.TheVariants.{ReadFailed};
+ghost use Rattle.nc_findings.specs.Contents.{hdf5_signature};
 
 use devices::Source;
-use nc_file::{HeadFault, Window};
-
-/// The first eight bytes of an HDF5 file, such as one of netCDF-4.
-pub const HDF5_SIGNATURE: [u8; 8] = *b"\x89HDF\r\n\x1a\n";
+use nc_findings::HDF5_SIGNATURE;
+use nc_window::{HeadFault, Window};
 
 /// Reads until the window holds the next eight bytes, leaves them unused, and returns true if they are the signature of HDF5: a clause says
 /// so of a transparent source alone. Needs a buffer with room for them after the used bytes. Errs with `ReadFailed` if the source fails.

@@ -5,15 +5,15 @@ ghost use Rattle.nc_base.specs.Grammar.{checked, dimid_after, each, is_within_li
 ghost use Rattle.nc_base.specs.Parts.{Shape, TypeCode, Vars};
 ghost use Rattle.nc_base.specs.declared.fault.FormatFault.TheVariants.{TooLarge};
 ghost use Rattle.nc_fields.specs.Lenient.{lenient};
-ghost use Rattle.nc_file.specs.code.SizedVars.{IsCounted, IsCountedType, type_of, var_of};
+ghost use Rattle.nc_window.specs.code.SizedVars.{IsCounted, IsCountedType, type_of, var_of};
 
 use crate::fields::FieldReader;
 use crate::list_name::HeaderList;
 use crate::number::NumberWidth;
-use crate::place::{FieldKind, Owner};
 use devices::Source;
 use nc_base::{Dim, FormatFault, Sequence, Var, Version};
-use nc_file::{HeadFault, SizedType, SizedVar, Window, total_with};
+use nc_findings::{FieldKind, Owner};
+use nc_window::{HeadFault, SizedType, SizedVar, Window, total_with};
 
 /// The tag of a list of variables (`NC_VARIABLE`).
 const NC_VARIABLE: u64 = 11;
@@ -66,7 +66,7 @@ impl FieldReader {
     /// floating type the integer type of its size, with the bytes of the padded slabs of all record variables up to this one: `total`, those
     /// before it, plus its own if it is a record variable. Errs with `BadType` if the version has no such type, with `TooLarge` if the slab
     /// passes 2^48 bytes or the sum 2^62, with `HeaderTruncated` if bytes are missing, and if the source or an allocation fails.
-    #[tactic(auto, using(crate::proofs::Checks::part_lists), unfolding(nc_base::specs::Grammar::number, nc_base::specs::Grammar::type_part, nc_file::specs::code::SizedVars::total_with))]
+    #[tactic(auto, using(crate::proofs::Checks::part_lists), unfolding(nc_base::specs::Grammar::number, nc_base::specs::Grammar::type_part, nc_window::specs::code::SizedVars::total_with))]
     fn var_type<S: Source>(
         &mut self,
         window: &mut Window<'_, S>,

@@ -1,7 +1,7 @@
 -- Begins that are summed up as they go are those of the padded slabs before.
 use Rattle.nc_file.proofs.Prelude.{◌≡◌, ℕ, ◌+◌, ◌-◌, ◌^◌, ◌≤◌, min, Ok, Err, Bool, true, false, ◌&&◌, List, [], ◌∷◌, ◌++◌, length, refl, sym, ◌∙◌, ap, arith, if◌then◌else◌, rules, list_all, le-ltb, Dim, Var, Header, Version, padded_total, record_vars, offset_limit, header_spelling, fixed_vars, begin_after, is_record_var, vars_with_begins, with_begins, fits, after, is_below, offset_of, placed}
 use Rattle.nc_base.proofs.FilePlaces.{fixed_total, fixed-push, padded_total-append}
-use Rattle.nc_file.proofs.Totals.{total_of-append}
+use Rattle.nc_window.proofs.Totals.{total_of-append}
 use Rattle.nc_file.specs.declared.write.begins.NextBegins.{NextBegins}
 
 -- ---- the offsets after these variables, where the header has this number of bytes

@@ -1,6 +1,4 @@
-pub mod Bytes
-pub mod Totals
-pub mod PartRuns
+mod Elements
 mod ReadParts
 pub mod Prints
 pub mod Outcomes

@@ -1,6 +1,6 @@
 -- A part of a header is read by reading the parts that it is made of.
 use Rattle.nc_file.proofs.Prelude.{◌≡◌, Bool, true, Option, Some, Ok, Err, if◌then◌else◌, refl, ap, ◌∙◌, arith, FormatFault, Ghosts, Window, OnTrue_at, OnTrue_from, Read, left, checked, Step, Part, done, under, chain, and_then, with_rest, run, printed_len}
-use Rattle.nc_file.proofs.Bytes.{kept-then}
+use Rattle.nc_window.proofs.Bytes.{kept-then}
 
 module _ {S : Type 0} {g : Ghosts S} where
   pub read-done : {A : Type 0} {now : Window S g} {x : A} → Read now now (done x) (Ok x)

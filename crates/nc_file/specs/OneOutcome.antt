@@ -1,6 +1,6 @@
 -- Law. Bytes begin with one header or have one first wrong field: the grammar and its faults leave nothing open.
 use Rattle.std.specs.Prelude.{ℕ, ◌≡◌, ◌⊎◌}
-use Rattle.nc_base.specs.Bytes.{Bytes}
+use Rattle.nc_types.specs.Bytes.{Bytes}
 use Rattle.nc_base.specs.declared.{fault.FormatFault.FormatFault, header.Header.Header}
 use Rattle.nc_base.specs.Grammar.{SpellsHeader, StopsAt}
 

@@ -15,12 +15,9 @@
 //! The crate `example` is a whole program.
 #![tactic(auto)]
 
-mod head_fault;
 pub mod laws;
 mod read;
-mod sized_var;
 mod tag;
-mod window;
 mod write;
 
 pub use devices::{
@@ -28,8 +25,6 @@ pub use devices::{
     MemSource, OpenFailed, Opener, Sink, SinkFailed, SliceSink, Source, SourceFailed, SystemFiles,
     WriteFailed, put,
 };
-pub use head_fault::HeadFault;
-pub use read::{is_dimid, read_header, total_with, type_in};
-pub use sized_var::{SizedType, SizedVar};
-pub use window::Window;
+pub use nc_window::HeadFault;
+pub use read::read_header;
 pub use write::{OffsetTooLarge, header_len, with_begins, write_header};

@@ -7,5 +7,3 @@ mod list;
 mod variable;
 
 pub use header::read_header;
-pub use list::type_in;
-pub use variable::{is_dimid, total_with};

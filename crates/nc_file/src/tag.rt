@@ -1,4 +1,4 @@
-//! The tags of the lists in a header, and the codes of the floating types (NetCDF Classic Format Specification, "Format in Detail").
+//! The tags of the lists in a header (NetCDF Classic Format Specification, "Format in Detail").
 
 /// The tag of a list of dimensions.
 pub(crate) const NC_DIMENSION: u32 = 10;
@@ -8,9 +8,3 @@ pub(crate) const NC_VARIABLE: u32 = 11;
 
 /// The tag of a list of attributes.
 pub(crate) const NC_ATTRIBUTE: u32 = 12;
-
-/// The code of the type float.
-pub(crate) const NC_FLOAT: u32 = 5;
-
-/// The code of the type double.
-pub(crate) const NC_DOUBLE: u32 = 6;

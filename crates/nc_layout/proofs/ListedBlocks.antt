@@ -2,7 +2,7 @@
 use Rattle.nc_layout.proofs.Prelude.{Contains, AllPairs, option_map_or, nat_tests, Contains-get_or, AllPairs-cons, Slot, FileLayout, Extent, records_begin, record_count, is_listed_before, each_slot, slot_block, fixed_block, records_block, blocks, ◌≡◌, ℕ, ◌+◌, ◌<◌, true, List, [], ◌∷◌, ◌++◌, length, get_or, arith, Option, Some, None}
 use Rattle.std.proofs.lemmas.List.{append-nil}
 use Rattle.std.proofs.lemmas.List.Quantifiers.{all_pairs_push}
-use Rattle.nc_layout.specs.declared.finding.Block.TheVariants.{Var, Records}
+use Rattle.nc_findings.specs.declared.layout_fact.Block.TheVariants.{Var, Records}
 use Rattle.nc_layout.proofs.BlockOrder.{Listed, contains-none, contains-cases}
 
 -- the blocks of slots from index i on are listed after those before it, and before the records

@@ -1,6 +1,7 @@
 -- The names that several files of proofs cite from elsewhere, passed on from one place.
 pub use Rattle.nc_base.specs.Sizes.{padded_size, padded_total, record_limit, record_vars, slab_limit, slab_size}
-pub use Rattle.nc_base.specs.declared.{fault.FormatFault.FormatFault, header.Dim.Dim, header.Header.Header, header.Var.Var, version.Version.Version}
+pub use Rattle.nc_base.specs.declared.{fault.FormatFault.FormatFault, header.Dim.Dim, header.Header.Header, header.Var.Var}
+pub use Rattle.nc_types.specs.declared.{version.Version.Version}
 pub use Rattle.nc_layout.specs.Blocks.{before, each_slot, fixed_block, has_values, is_listed_before, precedes, records_block, slot_block}
 unfoldable pub use Rattle.nc_layout.specs.Blocks.{blocks}
 pub use Rattle.nc_layout.specs.FileEnd.{first_of, first_slab, is_cut, record_slab, slabs_of}
@@ -15,7 +16,8 @@ unfoldable pub use Rattle.nc_layout.specs.Slots.{record_size, records_begin}
 pub use Rattle.nc_layout.specs.code.PassedSlots.{HasPassed, is_record_slot, next_has_successor, order_after, passed_after}
 pub use Rattle.nc_layout.specs.code.Records.{least_with, slab_if}
 pub use Rattle.nc_layout.specs.code.Sweep.{end_of, findings_at, further, padding_end, reached_with, swept, value_end}
-pub use Rattle.nc_layout.specs.declared.{block_rules.Reached.Reached, blocks.Extent.Extent, file_end.SlabPlace.SlabPlace, finding.Block.Block, finding.LayoutFinding.LayoutFinding, slot.FileLayout.FileLayout, slot.Slot.Slot, slot_rules.PassedSlots.PassedSlots}
+pub use Rattle.nc_layout.specs.declared.{block_rules.Reached.Reached, blocks.Extent.Extent, file_end.SlabPlace.SlabPlace, slot.FileLayout.FileLayout, slot.Slot.Slot, slot_rules.PassedSlots.PassedSlots}
+pub use Rattle.nc_findings.specs.declared.{layout_fact.Block.Block, layout_fact.LayoutFinding.LayoutFinding}
 pub use Rattle.std.proofs.Common.{All, Bool, Err, List, None, Ok, Option, Result, Some, [], ap, append-nil, append_assoc, arith, cond, count_by, drop, false, filter, fold, get_or, if◌then◌else◌, is_some, length, map, max, min, nat_lt, not, refl, rules, set, slice_get, subst, suc, sum_by, sym, take, true, zero, ℕ, ◌&&◌, ◌*◌, ◌++◌, ◌+◌, ◌<◌, ◌==◌, ◌^◌, ◌∙◌, ◌∷◌, ◌≡◌, ◌≤◌, ◌⊎◌}
 pub use Rattle.std.proofs.Math.ListN.{take-append-drop}
 pub use Rattle.std.proofs.lemmas.Bool.{cases_lt, leb-true}

@@ -1,6 +1,6 @@
 -- A header that bytes spell, by whatever rules, has a sound layout.
 use Rattle.nc_layout.proofs.Prelude.{common_steps, leb-true, nat_tests, All-nil, All-cons, All-append, All-map, FormatFault, Dim, Var, Header, Version, record_limit, record_vars, padded_total, IsSoundSlot, IsSoundLayout, slot_of, layout_of, ◌≡◌, ℕ, zero, suc, ◌+◌, ◌^◌, ◌<◌, ◌≤◌, Bool, true, List, [], ◌∷◌, ◌++◌, length, sym, subst, append_assoc, append-nil, arith, if◌then◌else◌, Result, Ok, Err, All}
-use Rattle.nc_base.specs.Bytes.{Bytes}
+use Rattle.nc_types.specs.Bytes.{Bytes}
 use Rattle.nc_base.specs.Headers.{IsDimid, AreDimids}
 use Rattle.nc_base.specs.Parts.{Part, Spells}
 use Rattle.nc_base.specs.Grammar.{Rules, offset_part, each, counted, list_part, dimid_part, dimid_after, shape_part, is_within_limits, var_part, var_after, var_list, header_by}

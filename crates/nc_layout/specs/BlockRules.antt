@@ -4,11 +4,12 @@
 use Rattle.std.specs.Prelude.{ℕ, ◌-◌, max, not, nat_lt, nat_le, ◌==◌, ◌&&◌, List, ◌++◌, filter, map, fold, find, Option}
 use Rattle.std.specs.List.{list_any}
 use Rattle.std.specs.Option.{option_to_list, option_map_or}
-use Rattle.nc_layout.specs.declared.{finding.LayoutFinding.LayoutFinding, blocks.Extent.Extent}
-use Rattle.nc_layout.specs.declared.finding.Block.{Block}
-use Rattle.nc_layout.specs.declared.finding.Block.TheVariants.{Records}
-use Rattle.nc_layout.specs.declared.finding.LayoutPlace.TheVariants as places
-use Rattle.nc_layout.specs.declared.finding.LayoutFact.TheVariants as facts
+use Rattle.nc_layout.specs.declared.{blocks.Extent.Extent}
+use Rattle.nc_findings.specs.declared.{layout_fact.LayoutFinding.LayoutFinding}
+use Rattle.nc_findings.specs.declared.layout_fact.Block.{Block}
+use Rattle.nc_findings.specs.declared.layout_fact.Block.TheVariants.{Records}
+use Rattle.nc_findings.specs.declared.layout_fact.LayoutPlace.TheVariants as places
+use Rattle.nc_findings.specs.declared.layout_fact.LayoutFact.TheVariants as facts
 use Rattle.nc_layout.specs.Blocks.{precedes, before}
 use Rattle.nc_layout.specs.FindingIf.{finding_if}
 

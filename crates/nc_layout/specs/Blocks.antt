@@ -3,8 +3,9 @@
 -- ends where they would begin.
 use Rattle.std.specs.Prelude.{ℕ, ◌+◌, ◌-◌, ◌*◌, max, Bool, true, false, nat_lt, ◌==◌, ◌&&◌, ◌||◌, if◌then◌else◌, List, [], ◌∷◌, ◌++◌, filter, map, fold, position, unwrap_or}
 use Rattle.std.specs.Option.{option_map_or}
-use Rattle.nc_layout.specs.declared.{slot.Slot.Slot, slot.FileLayout.FileLayout, finding.Block.Block, blocks.Extent.Extent}
-use Rattle.nc_layout.specs.declared.finding.Block.TheVariants.{Var, Records}
+use Rattle.nc_layout.specs.declared.{slot.Slot.Slot, slot.FileLayout.FileLayout, blocks.Extent.Extent}
+use Rattle.nc_findings.specs.declared.{layout_fact.Block.Block}
+use Rattle.nc_findings.specs.declared.layout_fact.Block.TheVariants.{Var, Records}
 use Rattle.nc_layout.specs.Slots.{padded_slab_len, is_fixed, record_slots, slab_in_record, record_size, records_begin, record_count}
 
 -- what f gives of each slot and its index, which counts from i

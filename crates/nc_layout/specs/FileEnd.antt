@@ -3,13 +3,14 @@
 use Rattle.std.specs.Prelude.{ℕ, Bool, ◌+◌, ◌-◌, ◌*◌, ◌==◌, max, nat_lt, nat_le, ◌&&◌, if◌then◌else◌, List, [], ◌∷◌, ◌++◌, filter, map, fold, Option, Some, None}
 use Rattle.std.specs.List.{range_with_len}
 use Rattle.std.specs.Option.{option_to_list, option_and_then}
-use Rattle.nc_base.specs.Bytes.{padding_len}
+use Rattle.nc_types.specs.Bytes.{padding_len}
 use Rattle.nc_base.specs.declared.header.NumRecs.{NumRecs}
 use Rattle.nc_base.specs.declared.header.NumRecs.TheVariants.{Known, Streaming}
-use Rattle.nc_layout.specs.declared.{slot.Slot.Slot, slot.FileLayout.FileLayout, finding.LayoutFinding.LayoutFinding, blocks.Extent.Extent, file_end.SlabPlace.SlabPlace}
-use Rattle.nc_layout.specs.declared.finding.Slab.TheVariants as slabs
-use Rattle.nc_layout.specs.declared.finding.LayoutPlace.TheVariants as places
-use Rattle.nc_layout.specs.declared.finding.LayoutFact.TheVariants as facts
+use Rattle.nc_layout.specs.declared.{slot.Slot.Slot, slot.FileLayout.FileLayout, blocks.Extent.Extent, file_end.SlabPlace.SlabPlace}
+use Rattle.nc_findings.specs.declared.{layout_fact.LayoutFinding.LayoutFinding}
+use Rattle.nc_findings.specs.declared.layout_fact.Slab.TheVariants as slabs
+use Rattle.nc_findings.specs.declared.layout_fact.LayoutPlace.TheVariants as places
+use Rattle.nc_findings.specs.declared.layout_fact.LayoutFact.TheVariants as facts
 use Rattle.nc_layout.specs.Slots.{record_size, records_by_length, record_count}
 use Rattle.nc_layout.specs.Blocks.{each_slot, blocks, has_values}
 use Rattle.nc_layout.specs.FindingIf.{finding_if}

@@ -1,6 +1,6 @@
 -- Definition. A finding under a condition.
 use Rattle.std.specs.Prelude.{Bool, if◌then◌else◌, Option, None, Some}
-use Rattle.nc_layout.specs.declared.{finding.LayoutPlace.LayoutPlace, finding.LayoutFact.LayoutFact, finding.LayoutFinding.LayoutFinding}
+use Rattle.nc_findings.specs.declared.{layout_fact.LayoutPlace.LayoutPlace, layout_fact.LayoutFact.LayoutFact, layout_fact.LayoutFinding.LayoutFinding}
 
 -- a finding, if the condition holds
 abbrev pub finding_if : Bool → LayoutPlace → LayoutFact → Option LayoutFinding

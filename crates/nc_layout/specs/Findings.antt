@@ -1,7 +1,8 @@
 -- Definition. All findings about the layout of a file, and the limits that a layout keeps.
 use Rattle.std.specs.Prelude.{◌≤◌, ◌<◌, ◌^◌, List, ◌++◌, All, sum_by, flat_map}
 use Rattle.nc_base.specs.Sizes.{slab_limit, record_limit}
-use Rattle.nc_layout.specs.declared.{slot.Slot.Slot, slot.FileLayout.FileLayout, finding.LayoutFinding.LayoutFinding}
+use Rattle.nc_layout.specs.declared.{slot.Slot.Slot, slot.FileLayout.FileLayout}
+use Rattle.nc_findings.specs.declared.{layout_fact.LayoutFinding.LayoutFinding}
 use Rattle.nc_layout.specs.Slots.{padded_slab_len, record_slots}
 use Rattle.nc_layout.specs.Blocks.{each_slot, blocks}
 use Rattle.nc_layout.specs.NumRecsRules.{numrecs_findings}

@@ -4,9 +4,10 @@ use Rattle.std.specs.Prelude.{true, nat_lt, ◌&&◌, List, ◌++◌, is_none, O
 use Rattle.std.specs.Option.{option_to_list}
 use Rattle.nc_base.specs.declared.header.NumRecs.{NumRecs}
 use Rattle.nc_base.specs.declared.header.NumRecs.TheVariants.{Known, Streaming}
-use Rattle.nc_layout.specs.declared.{slot.FileLayout.FileLayout, finding.LayoutFinding.LayoutFinding}
-use Rattle.nc_layout.specs.declared.finding.LayoutPlace.TheVariants as places
-use Rattle.nc_layout.specs.declared.finding.LayoutFact.TheVariants as facts
+use Rattle.nc_layout.specs.declared.{slot.FileLayout.FileLayout}
+use Rattle.nc_findings.specs.declared.{layout_fact.LayoutFinding.LayoutFinding}
+use Rattle.nc_findings.specs.declared.layout_fact.LayoutPlace.TheVariants as places
+use Rattle.nc_findings.specs.declared.layout_fact.LayoutFact.TheVariants as facts
 use Rattle.nc_layout.specs.Slots.{records_begin, records_by_length}
 use Rattle.nc_layout.specs.FindingIf.{finding_if}
 

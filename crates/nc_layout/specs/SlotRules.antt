@@ -5,11 +5,12 @@
 use Rattle.std.specs.Prelude.{ℕ, ◌+◌, ◌-◌, ◌^◌, max, Bool, not, nat_lt, ◌==◌, ◌&&◌, ◌||◌, if◌then◌else◌, List, ◌++◌, filter, map, fold, take, drop, sum_by, position, unwrap_or, Option, None, Some}
 use Rattle.std.specs.List.{list_any}
 use Rattle.std.specs.Option.{option_to_list, option_and_then}
-use Rattle.nc_base.specs.declared.version.Version.{Version}
-use Rattle.nc_base.specs.declared.version.Version.TheVariants.{Cdf1, Cdf2, Cdf5}
-use Rattle.nc_layout.specs.declared.{slot.Slot.Slot, slot.FileLayout.FileLayout, finding.LayoutFinding.LayoutFinding}
-use Rattle.nc_layout.specs.declared.finding.LayoutPlace.TheVariants as places
-use Rattle.nc_layout.specs.declared.finding.LayoutFact.TheVariants as facts
+use Rattle.nc_types.specs.declared.version.Version.{Version}
+use Rattle.nc_types.specs.declared.version.Version.TheVariants.{Cdf1, Cdf2, Cdf5}
+use Rattle.nc_layout.specs.declared.{slot.Slot.Slot, slot.FileLayout.FileLayout}
+use Rattle.nc_findings.specs.declared.{layout_fact.LayoutFinding.LayoutFinding}
+use Rattle.nc_findings.specs.declared.layout_fact.LayoutPlace.TheVariants as places
+use Rattle.nc_findings.specs.declared.layout_fact.LayoutFact.TheVariants as facts
 use Rattle.nc_layout.specs.Slots.{padded_slab_len, is_fixed, record_slots, records_begin}
 use Rattle.nc_layout.specs.FindingIf.{finding_if}
 

@@ -2,7 +2,7 @@
 -- Specification).
 use Rattle.std.specs.Prelude.{ℕ, ◌+◌, ◌-◌, ◌/◌, min, Bool, false, not, if◌then◌else◌, List, [], ◌∷◌, filter, map, fold, sum_by, Option, None, Some}
 use Rattle.std.specs.Option.{option_map_or}
-use Rattle.nc_base.specs.Bytes.{padding_len}
+use Rattle.nc_types.specs.Bytes.{padding_len}
 use Rattle.nc_base.specs.declared.header.NumRecs.{NumRecs}
 use Rattle.nc_base.specs.declared.header.NumRecs.TheVariants.{Known, Streaming}
 use Rattle.nc_layout.specs.declared.{slot.Slot.Slot, slot.FileLayout.FileLayout}

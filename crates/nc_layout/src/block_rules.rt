@@ -7,9 +7,10 @@ ghost use Rattle.nc_layout.specs.Blocks.{blocks};
 ghost use Rattle.nc_layout.specs.code.Sweep.{value_end, padding_end, further, reached_with, end_of, overlap_after, unpadded_after, gap_after, findings_at, swept, nothing_reached, AppendedBlockFindings};
 
 use crate::blocks::Extent;
-use crate::finding::{LayoutFact, LayoutFinding, LayoutPlace, finding_if, push_some};
+use crate::finding::{finding_if, push_some};
 use crate::slot::FileLayout;
 use nc_base::Sequence;
+use nc_findings::{LayoutFact, LayoutFinding, LayoutPlace};
 use std::alloc::AllocError;
 
 /// How far the blocks reach that a pass, in the order of their begins, has passed. A block is the values of a variable that isn't a record

@@ -6,9 +6,9 @@ ghost use Rattle.nc_layout.specs.Blocks.{slot_block, fixed_block, each_slot, rec
 ghost use Rattle.nc_layout.specs.Findings.{IsSoundSlot, IsSoundLayout};
 ghost use Rattle.nc_layout.specs.code.Records.{slab_if, AreRecords};
 
-use crate::finding::Block;
 use crate::records::{FileRecords, padded_slab_len, slab_in_record};
 use crate::slot::{FileLayout, Slot};
+use nc_findings::Block;
 use std::alloc::{AllocError, Global};
 
 /// A block (the values of a variable that isn't a record variable, or all records together), and where it lies.

@@ -1,7 +1,7 @@
 //! Findings at the end of the file.
 
 ghost use Rattle.std.specs.Prelude.{◌≡◌, ◌≤◌, ◌<◌, ◌+◌, ◌*◌, ◌++◌, ◌^◌, ◌==◌, ℕ, OnOk, true, filter, max, nat_lt, if◌then◌else◌};
-ghost use Rattle.nc_base.specs.Bytes.{padding_len};
+ghost use Rattle.nc_types.specs.Bytes.{padding_len};
 ghost use Rattle.nc_layout.specs.Blocks.{blocks};
 ghost use Rattle.nc_layout.specs.Findings.{IsSoundLayout, IsSoundSlot};
 ghost use Rattle.nc_layout.specs.FileEnd.{record_slab, slabs_of, first_of, first_slab, is_cut, first_cut_slab, missing, end_padding, spare_len, spare_padding, numrecs_by_length, trailing, end_findings};
@@ -9,10 +9,11 @@ ghost use Rattle.nc_layout.specs.code.Records.{AreRecords};
 ghost use Rattle.nc_layout.specs.code.BlockEnds.{AreEnds};
 
 use crate::blocks::Extent;
-use crate::finding::{LayoutFact, LayoutFinding, LayoutPlace, Slab, finding_if, push_some};
+use crate::finding::{finding_if, push_some};
 use crate::records::FileRecords;
 use crate::slot::{FileLayout, Slot};
 use nc_base::{NumRecs, Sequence, padding_len};
+use nc_findings::{LayoutFact, LayoutFinding, LayoutPlace, Slab};
 use std::alloc::AllocError;
 
 /// The offsets at which the blocks of a file end (each variable that isn't a record variable, and all records), or the header if later.

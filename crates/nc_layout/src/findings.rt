@@ -6,12 +6,12 @@ ghost use Rattle.nc_layout.specs.Findings.{IsSoundLayout, layout_findings};
 use crate::block_rules::push_block_findings;
 use crate::blocks::blocks;
 use crate::file_end::push_end_findings;
-use crate::finding::LayoutFinding;
 use crate::numrecs_rules::push_numrecs_findings;
 use crate::records::file_records;
 use crate::slot::FileLayout;
 use crate::slot_rules::push_slot_findings;
 use nc_base::Sequence;
+use nc_findings::LayoutFinding;
 use std::alloc::{AllocError, Global};
 
 /// Returns all findings about the layout of a file, in no order that is promised. Errs only if an allocation fails.

@@ -19,8 +19,8 @@ mod sound;
 
 pub use blocks::Extent;
 pub use file_end::SlabPlace;
-pub use finding::{Block, LayoutFact, LayoutFinding, LayoutPlace, Slab};
 pub use findings::layout_findings;
 pub use header_layout::sound_layout;
+pub use nc_findings::{Block, LayoutFact, LayoutFinding, LayoutPlace, Slab};
 pub use records::padded_slab_len;
 pub use slot::{FileLayout, Slot};

@@ -4,10 +4,11 @@ ghost use Rattle.std.specs.Prelude.{◌≡◌, ◌++◌, OnOk};
 ghost use Rattle.nc_layout.specs.NumRecsRules.{streaming, unused_records, numrecs_findings};
 ghost use Rattle.nc_layout.specs.code.Records.{AreRecords};
 
-use crate::finding::{LayoutFact, LayoutFinding, LayoutPlace, finding_if, push_some};
+use crate::finding::{finding_if, push_some};
 use crate::records::FileRecords;
 use crate::slot::FileLayout;
 use nc_base::{NumRecs, Sequence};
+use nc_findings::{LayoutFact, LayoutFinding, LayoutPlace};
 use std::alloc::AllocError;
 
 /// Appends the findings at the field `numrecs` of the header: the streaming mark, and records without a record variable. Needs the layout's

@@ -9,10 +9,11 @@ ghost use Rattle.nc_layout.specs.SlotRules.{large_limit, large_variable, begin_i
 ghost use Rattle.nc_layout.specs.code.Records.{AreRecords};
 ghost use Rattle.nc_layout.specs.code.PassedSlots.{HasPassed, order_after, passed_after, next_has_successor};
 
-use crate::finding::{LayoutFact, LayoutFinding, LayoutPlace, finding_if, push_some};
+use crate::finding::{finding_if, push_some};
 use crate::records::{FileRecords, padded_slab_len};
 use crate::slot::{FileLayout, Slot};
 use nc_base::{Sequence, Version};
+use nc_findings::{LayoutFact, LayoutFinding, LayoutPlace};
 use std::alloc::AllocError;
 
 /// What a pass over the slots (begin, slab size and kind of each variable) keeps of those before the next one, for the rules on it.

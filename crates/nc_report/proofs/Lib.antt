@@ -1,6 +1,1 @@
-pub mod Prelude
-pub mod IndexedLists
-pub mod NameKeys
-pub mod Located
-pub mod OneOrder
-pub mod Reported
+mod Reported

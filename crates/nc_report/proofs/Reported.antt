@@ -1,33 +1,20 @@
 -- What a report says of a listing.
-use Rattle.nc_report.proofs.Prelude.{IsPermutation, AllPairs, IsTotalOrder, options_total, nat_cmp_total, on_total, then_total, IsPermutation-trans, IsPermutation-append_left, OnTrue, OnTrue_at, OnTrue_from, Header, FormatFault, Listing, IsSoundLayout, layout_of, Fact, Finding, Kind, header_findings, whole_findings, all_findings, finding_cmp, IsInOrder, IsReport, HasSoundLayout, ℕ, ◌++◌, Bool, List, Option, Result, Ok, Err, sym, subst}
-use Rattle.nc_base.specs.Bytes.{Bytes}
+use Rattle.std.proofs.Common.{Err, List, Ok, Result, subst, sym}
+use Rattle.std.proofs.lemmas.Bool.{OnTrue_at, OnTrue_from}
+use Rattle.std.specs.Bool.{OnTrue}
+use Rattle.std.specs.List.{AllPairs}
+use Rattle.std.specs.Prelude.{Bool, IsPermutation}
+use Rattle.nc_base.specs.declared.{fault.FormatFault.FormatFault, header.Header.Header}
+use Rattle.nc_types.specs.Bytes.{Bytes}
 use Rattle.nc_fields.specs.Lenient.{lenient}
 use Rattle.nc_fields.specs.Listings.{IsListing, IsOutcome}
+use Rattle.nc_findings.specs.declared.{finding.Finding.Finding, listing.Listing.Listing}
 use Rattle.nc_layout.proofs.SpelledLayouts.{spelled-layout}
-use Rattle.nc_report.specs.contracts.finding.FactOrd.TheImpl.Laws as fact_laws
-use Rattle.nc_report.specs.contracts.kind.KindOrd.TheImpl.Laws as kind_laws
-use Rattle.nc_report.specs.Kinds.{kind_of}
-
--- ---- the order
-
--- what the findings are sorted by
-abbrev pub key : Finding → ℕ × Kind × Fact × Option ℕ
-key f = (f.offset, kind_of f.fact, f.fact, f.field)
-
-pub findings-total : IsTotalOrder finding_cmp
-findings-total =
-    then_total
-    (then_total (then_total (on_total (λ (f : Finding). f.offset) nat_cmp_total) (on_total (λ (f : Finding). kind_of f.fact) kind_laws.total-law))
-    (on_total (λ (f : Finding). f.fact) fact_laws.total-law))
-    (on_total (λ (f : Finding). f.field) (options_total nat_cmp_total))
-
--- ---- all of it
-
-pub all-found : (l : Listing) (of_header more found : List Finding) → IsPermutation (header_findings l.entries) of_header → IsPermutation (of_header ++ whole_findings l) more → IsPermutation more found
-    → IsPermutation (all_findings l) found
-unfolding all_findings
-all-found l of_header more found p q r =
-    IsPermutation-trans _ more found (IsPermutation-trans _ (of_header ++ whole_findings l) more (IsPermutation-append_left (whole_findings l) (header_findings l.entries) of_header p) q) r
+use Rattle.nc_layout.specs.Findings.{IsSoundLayout}
+use Rattle.nc_layout.specs.HeaderLayout.{layout_of}
+use Rattle.nc_report.specs.Reports.{IsReport}
+use Rattle.nc_rules.specs.Findings.{all_findings, IsInOrder}
+use Rattle.nc_rules.specs.code.WholeHeaders.{HasSoundLayout}
 
 -- the layout of a header that was read is sound
 pub sound-listing : (bytes : Bytes) (l : Listing) → IsListing bytes l → HasSoundLayout l

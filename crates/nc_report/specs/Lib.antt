@@ -1,10 +1,2 @@
-pub mod Indexed
-pub mod FieldRules
-pub mod Ahead
-pub mod AttributeRules
-pub mod NameRules
-pub mod HeaderRules
-pub mod WholeHeader
-pub mod Kinds
 pub mod Reports
 pub mod code

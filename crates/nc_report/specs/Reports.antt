@@ -1,36 +1,10 @@
 -- Definition. The report of a file: all that is found in it, in order.
-use Rattle.std.specs.Prelude.{◌≡◌, ◌++◌, false, List, IsPermutation}
+use Rattle.std.specs.Prelude.{IsPermutation}
 use Rattle.std.specs.List.{AllPairs}
-use Rattle.std.specs.declared.cmp.Ordering.{Ordering}
-use Rattle.std.specs.Option.{option_cmp}
-use Rattle.std.specs.Ordering.{is_gt, nat_cmp, ordering_then}
-use Rattle.nc_base.specs.Bytes.{Bytes}
-use Rattle.nc_fields.specs.declared.header.Listing.{Listing}
+use Rattle.nc_types.specs.Bytes.{Bytes}
 use Rattle.nc_fields.specs.Listings.{IsListing}
-use Rattle.nc_report.specs.declared.{finding.Finding.Finding, report.Report.Report}
-use Rattle.nc_report.specs.contracts.finding.FactOrd.TheImpl as facts
-use Rattle.nc_report.specs.contracts.kind.KindOrd.TheImpl as kinds
-use Rattle.nc_report.specs.Kinds.{kind_of}
-use Rattle.nc_report.specs.HeaderRules.{header_findings}
-use Rattle.nc_report.specs.WholeHeader.{whole_findings}
-
--- all that is found in a file with this listing
-unfoldable pub all_findings : Listing → List Finding
-all_findings l = header_findings l.entries ++ whole_findings l
-
--- by offset; then by kind, in the order of the kinds; then by fact, in the order of the facts and of the numbers that they have; then by
--- field, with none first
-abbrev pub finding_cmp : Finding → Finding → Ordering
-finding_cmp f g =
-    ordering_then
-    (ordering_then
-    (ordering_then (nat_cmp f.offset g.offset) (kinds.ghosts.cmp (kind_of f.fact) (kind_of g.fact)))
-    (facts.ghosts.cmp f.fact g.fact))
-    (option_cmp nat_cmp f.field g.field)
-
--- a finding doesn't come after another one
-abbrev pub IsInOrder : Finding → Finding → Type 0
-IsInOrder f g = is_gt (finding_cmp f g) ≡ false
+use Rattle.nc_findings.specs.declared.report.Report.{Report}
+use Rattle.nc_rules.specs.Findings.{all_findings, IsInOrder}
 
 -- the report of a file with these bytes
 pub record IsReport (bytes : Bytes) (r : Report) : Type 0 where

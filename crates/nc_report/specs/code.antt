@@ -1,4 +1,1 @@
-pub mod Passes
-pub mod FirstNames
-pub mod WholeHeaders
 pub mod Reports

@@ -9,7 +9,7 @@ pub use Rattle.devices.specs.code.SourceReads.{having_read, NoneRead, BytesRead}
 pub use Rattle.nc_base.proofs.FilePlaces.{flat_map-below, length-number, whole-padding, length-replicated}
 pub use Rattle.nc_base.proofs.SoundLaws.{some_count, some_size}
 pub use Rattle.nc_base.proofs.WholeValues.{length-whole, map-map, none-found, numbers-concat, range-add}
-pub use Rattle.nc_base.specs.Bytes.{padding_len}
+pub use Rattle.nc_types.specs.Bytes.{padding_len}
 unfoldable pub use Rattle.nc_base.specs.Fill.{fill_value}
 pub use Rattle.nc_base.specs.GeneratedFile.{block, is_sole_narrow, known_records, record_part, slab_in}
 unfoldable pub use Rattle.nc_base.specs.GeneratedFile.{data_of, fill_bytes, padded_slab}
@@ -19,9 +19,10 @@ pub use Rattle.nc_base.specs.Numbers.{bytes_of_number, number_of}
 unfoldable pub use Rattle.nc_base.specs.Numbers.{numbers}
 pub use Rattle.nc_base.specs.Places.{bytes_at, distance, ends_after, first_missing, lens_over, slab_strides, stored_bytes, stored_values, value_offset, vectors_below}
 unfoldable pub use Rattle.nc_base.specs.Places.{value_offsets}
-pub use Rattle.nc_base.specs.Types.{size_of}
+pub use Rattle.nc_types.specs.Types.{size_of}
 pub use Rattle.nc_base.specs.code.OwedValues.{AreListed, IsListed, fills, owed_count, whole_array, whole_arrays}
-pub use Rattle.nc_base.specs.declared.{header.Dim.Dim, header.Header.Header, header.Var.Var, nc_type.NcType.NcType}
+pub use Rattle.nc_base.specs.declared.{header.Dim.Dim, header.Header.Header, header.Var.Var}
+pub use Rattle.nc_types.specs.declared.{nc_type.NcType.NcType}
 pub use Rattle.nc_walk.specs.code.Filled.{ArrayView, array_view, filled_blocks, filled_record, filled_records, filled_slab, filled_slabs, record_arrays}
 unfoldable pub use Rattle.nc_walk.specs.code.Filled.{repeated}
 pub use Rattle.nc_walk.specs.code.FullReads.{FailedReadInFull, ReadInFull}

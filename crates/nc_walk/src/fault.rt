@@ -22,7 +22,7 @@ impl fmt::Display for WalkFault {
     ghost output = { λ fault. Some (walk_fault_text fault) };
 
     /// Writes `read failed`, or `data truncated at value ` and the number of the value.
-    #[tactic(auto, unfolding(nc_base::specs::Bytes::concat_parts, crate::specs::code::FaultTexts::walk_fault_text))]
+    #[tactic(auto, unfolding(nc_types::specs::Bytes::concat_parts, crate::specs::code::FaultTexts::walk_fault_text))]
     fn fmt<W: fmt::Write>(&self, f: &mut fmt::Formatter<W>) -> fmt::Result {
         match self {
             WalkFault::ReadFailed => f.write_str("read failed"),

@@ -7,7 +7,7 @@ pub use Rattle.cli_base.specs.code.Answers.{AnswersBy}
 unfoldable pub use Rattle.devices.specs.Failures.{HasFailed}
 pub use Rattle.devices.specs.Readers.{ReaderView, view_of}
 pub use Rattle.devices.specs.code.PathOpens.{HasBack, NamesAsBefore, OpensOnce}
-pub use Rattle.nc_base.specs.Bytes.{Bytes}
+pub use Rattle.nc_types.specs.Bytes.{Bytes}
 pub use Rattle.nccheck.specs.CommandLine.{Asked, asked_in}
 unfoldable pub use Rattle.nccheck.specs.CommandLine.{asked_by, nccheck}
 pub use Rattle.nccheck.specs.PathLists.{Broken, Item, ListEnd, Path, Unread, Whole, items_after, items_in, last_items}

@@ -5,9 +5,9 @@ use Rattle.std.specs.Str.{byte, bytes_eq}
 use Rattle.clap.specs.Words.{App, Row, Rule, all_of, fault_of, first_of, matches_of, new_app, new_rule, with_rule}
 use Rattle.clap.specs.declared.builder.ArgAction.TheVariants.{Append}
 use Rattle.cli_base.specs.Arguments.{flag, if_faultless, is_given, option, quiet}
-use Rattle.nc_base.specs.Bytes.{Bytes}
-use Rattle.nc_report.specs.declared.kind.Severity.{Severity}
-use Rattle.nc_report.specs.declared.kind.Severity.TheVariants.{Error, Violation, Note}
+use Rattle.nc_types.specs.Bytes.{Bytes}
+use Rattle.nc_findings.specs.declared.kind.Severity.{Severity}
+use Rattle.nc_findings.specs.declared.kind.Severity.TheVariants.{Error, Violation, Note}
 use Rattle.check_lines.specs.Lines.{Filter}
 use Rattle.nccheck.specs.KindWords.{is_kind_word}
 

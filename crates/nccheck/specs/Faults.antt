@@ -1,10 +1,10 @@
 -- Definition. The faults of a run, and the lines that tell them.
 use Rattle.std.specs.Prelude.{[], ◌∷◌, codes}
-use Rattle.nc_base.specs.Bytes.{Bytes, concat_parts}
+use Rattle.nc_types.specs.Bytes.{Bytes, concat_parts}
 use Rattle.devices.specs.declared.fault.OpenFailed.{OpenFailed}
 use Rattle.devices.specs.declared.fault.OpenFailed.TheVariants.{NotFound, PermissionDenied, NotRegular, Other}
-use Rattle.nc_fields.specs.declared.list_fault.ListFault.{ListFault}
-use Rattle.nc_fields.specs.declared.list_fault.ListFault.TheVariants as list
+use Rattle.nc_findings.specs.declared.list_fault.ListFault.{ListFault}
+use Rattle.nc_findings.specs.declared.list_fault.ListFault.TheVariants as list
 use Rattle.cli_base.specs.declared.fault.OptFault.{OptFault}
 use Rattle.cli_base.specs.declared.fault.OptFault.TheVariants as opt
 use Rattle.check_lines.specs.Shown.{shown_path}

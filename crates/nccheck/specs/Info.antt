@@ -1,7 +1,7 @@
 -- Definition. What `-V` and `-h` ask for, and what they write.
 use Rattle.std.specs.Prelude.{if◌then◌else◌, List, [], ◌∷◌, ◌++◌, codes, Option, Some, None}
 use Rattle.std.specs.Str.{bytes_eq}
-use Rattle.nc_base.specs.Bytes.{Bytes}
+use Rattle.nc_types.specs.Bytes.{Bytes}
 use Rattle.nccheck.specs.Faults.{usage_line}
 use Rattle.nccheck.specs.declared.info.Info.{Info}
 use Rattle.nccheck.specs.declared.info.Info.TheVariants.{Version, Help}
@@ -21,7 +21,7 @@ info_in [] = None
 info_in (name ∷ words) = info_among words
 
 unfoldable pub version_line : Bytes
-version_line = codes "nccheck 0.3.1\n"
+version_line = codes "nccheck 0.3.2\n"
 
 -- a line for each option
 unfoldable pub option_lines : Bytes

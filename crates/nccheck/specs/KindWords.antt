@@ -2,8 +2,8 @@
 use Rattle.std.specs.Prelude.{◌≡◌, Bool, true}
 use Rattle.std.specs.List.{list_any}
 use Rattle.std.specs.Str.{bytes_eq}
-use Rattle.nc_base.specs.Bytes.{Bytes}
-use Rattle.nc_report.specs.declared.kind.Kind.{Kind}
+use Rattle.nc_types.specs.Bytes.{Bytes}
+use Rattle.nc_findings.specs.declared.kind.Kind.{Kind}
 use Rattle.check_lines.specs.Words.{kind_word}
 use Rattle.nccheck.specs.declared.kind_words.TheConstants.{KINDS}
 

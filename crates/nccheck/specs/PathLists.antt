@@ -1,7 +1,7 @@
 -- Definition. Lists of paths, each ended by a NUL, the last one with or without.
 use Rattle.std.specs.Prelude.{ℕ, ◌==◌, ◌&&◌, Bool, nat_le, if◌then◌else◌, List, [], ◌∷◌, ◌++◌, length}
 use Rattle.std.specs.Str.{is_utf8}
-use Rattle.nc_base.specs.Bytes.{Bytes}
+use Rattle.nc_types.specs.Bytes.{Bytes}
 use Rattle.check_lines.specs.Shown.{longest_path}
 
 -- the path can be opened: it is UTF-8, and not too long

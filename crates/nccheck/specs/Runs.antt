@@ -1,10 +1,9 @@
 -- Definition. What a run of the program has done.
-use Rattle.std.specs.Prelude.{ℕ, ◌≡◌, ◌+◌, ◌^◌, ◌≤◌, ◌⊎◌, ◌&&◌, not, Bool, true, false, if◌then◌else◌, List, [], ◌∷◌, ◌++◌, codes, length, map}
-use Rattle.std.specs.Prelude.{Option, Some, None, IfSome, IsSomeAnd, MatchBool, MatchOption, Result, Ok, Err}
+use Rattle.std.specs.Prelude.{ℕ, ◌≡◌, ◌+◌, ◌^◌, ◌≤◌, ◌⊎◌, ◌&&◌, not, Bool, true, false, if◌then◌else◌, List, [], ◌∷◌, ◌++◌, codes, length, map, Option, Some, None, IfSome, IsSomeAnd, MatchBool, MatchOption, Result, Ok, Err}
 use Rattle.std.specs.Bool.{OnTrue}
 use Rattle.std.specs.Io.KnownBytes.{Consumes}
 use Rattle.std.specs.List.{list_any}
-use Rattle.nc_base.specs.Bytes.{Bytes}
+use Rattle.nc_types.specs.Bytes.{Bytes}
 use Rattle.devices.specs.Failures.{HasFailed, one_more}
 use Rattle.devices.specs.Openers.{OpenerView, refuse}
 use Rattle.devices.specs.Readers.{ReaderView}
@@ -12,8 +11,8 @@ use Rattle.devices.specs.Sinks.{SinkView, Appended, FailedPartway}
 use Rattle.devices.specs.Uses.{Use}
 use Rattle.devices.specs.declared.fault.OpenFailed.TheVariants.{NotFound, Other}
 use Rattle.nc_report.specs.Reports.{IsReport}
-use Rattle.nc_fields.specs.declared.header.Listing.{Listing}
-use Rattle.nc_report.specs.declared.{finding.Finding.Finding, kind.Severity.Severity, report.Report.Report}
+use Rattle.nc_findings.specs.declared.listing.Listing.{Listing}
+use Rattle.nc_findings.specs.declared.{finding.Finding.Finding, report.Report.Report, kind.Severity.Severity}
 use Rattle.cli_base.specs.declared.fault.OptFault.{OptFault}
 use Rattle.cli_base.specs.declared.fault.OptFault.TheVariants as opt
 use Rattle.check_lines.specs.Lines.{gravest, lines}

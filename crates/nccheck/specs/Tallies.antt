@@ -1,8 +1,8 @@
 -- Definition. How many files of a run were checked, and what was reported of them: the status, and the last line of `-s`.
 use Rattle.std.specs.Prelude.{ℕ, ◌+◌, nat_lt, if◌then◌else◌, List, [], ◌∷◌, codes, decimal, Option, Some, None, Result, Ok, Err, fold}
-use Rattle.nc_base.specs.Bytes.{Bytes, concat_parts}
-use Rattle.nc_report.specs.declared.kind.Severity.{Severity}
-use Rattle.nc_report.specs.declared.kind.Severity.TheVariants.{Error, Violation, Note}
+use Rattle.nc_types.specs.Bytes.{Bytes, concat_parts}
+use Rattle.nc_findings.specs.declared.kind.Severity.{Severity}
+use Rattle.nc_findings.specs.declared.kind.Severity.TheVariants.{Error, Violation, Note}
 use Rattle.nccheck.specs.declared.{fault.FileFault.FileFault, tally.SummaryCount.SummaryCount, tally.Tally.Tally}
 use Rattle.nccheck.specs.declared.tally.SummaryCount.TheVariants.{Checked, WithErrors, WithViolations, WithNotes, WithNothing, NotChecked}
 

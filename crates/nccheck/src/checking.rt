@@ -5,8 +5,7 @@ ghost use Rattle.std.specs.Bool.{OnTrue};
 ghost use Rattle.devices.specs.code.PathOpens.{NamesAsBefore};
 ghost use Rattle.devices.specs.code.SinkWrites.{Wrote};
 ghost use Rattle.nccheck.specs.PathLists.{Path};
-ghost use Rattle.nccheck.specs.Runs.{ChecksBytes, ChecksItem, ChecksNamed, ChecksPath, ends_run, OpensFile, openings};
-ghost use Rattle.nccheck.specs.Runs.{shown, state, WriteFailsOnly};
+ghost use Rattle.nccheck.specs.Runs.{ChecksBytes, ChecksItem, ChecksNamed, ChecksPath, ends_run, OpensFile, openings, shown, state, WriteFailsOnly};
 ghost use Rattle.nccheck.specs.code.OpenedFiles.{ReadsOpened};
 ghost use Rattle.nccheck.specs.code.Options.{asked_for};
 

@@ -5,7 +5,7 @@ ghost use Rattle.nccheck.specs.Faults.{fault_of_list};
 ghost use Rattle.nccheck.specs.declared.fault.FileFault.TheVariants.{CannotOpen, WriteFailed as write_failed};
 
 use devices::{OpenFailed, WriteFailed};
-use nc_fields::ListFault;
+use nc_findings::ListFault;
 
 /// Why a file could not be checked, or its lines not written.
 #[derive(Clone, Copy)]

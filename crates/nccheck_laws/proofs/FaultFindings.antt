@@ -1,7 +1,7 @@
 -- Among the facts of an entry that the strict rules refuse is the fault with which they do, but for a floating type.
 use Rattle.nccheck_laws.proofs.Prelude.{FormatFault, BadCount, FloatingType, Entry, Content, FieldKind, Owner, field_steps, owner_steps, refusal_in, Fact, facts_with, Length, bytes_eq, Fault, is_floating_in, NotNetcdf, hdf5_signature, Hdf5, Gzip, EmptyFile, gzip_signature, fault_fact, is_large_count, strict_fault, ◌≡◌, ℕ, ◌==◌, Bool, true, false, cond, List, [], ◌∷◌, ◌++◌, length, take, Option, Some, None, refl, sym, ◌∙◌, arith}
-use Rattle.nc_fields.specs.declared.entry.Content.TheVariants as content
-use Rattle.nc_fields.specs.declared.place.FieldKind.TheVariants as field
+use Rattle.nc_findings.specs.declared.entry.Content.TheVariants as content
+use Rattle.nc_findings.specs.declared.place.FieldKind.TheVariants as field
 use Rattle.nccheck_laws.proofs.Refusals.{refusal_of}
 
 -- ---- the facts of one entry

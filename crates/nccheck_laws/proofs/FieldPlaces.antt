@@ -1,7 +1,7 @@
 -- Each field of a header has a place, to which the steps to the field lead. If reading stops, a field has the fault that it stops with.
 use Rattle.nccheck_laws.proofs.Prelude.{FormatFault, Dim, Version, FloatingType, Bytes, padded_total, record_vars, Step, Part, done, bytes, decoded, under, chain, Dims, Gatts, Vars, Tag, Count, Item, Name, Shape, Atts, dimension_tag, variable_tag, dim_after, dimid_after, var_after, number, limited_part, offset_part, ignored, name_part, type_part, counted, list_head, list_part, each, dim_part, dim_list, att_part, att_list, dimid_part, shape_part, var_part, var_list, version_part, magic_part, numrecs_part, header_by, Outcome, and_then, run, Owner, FieldKind, steps_of, owner_steps, Field, fields, lenient, attribute_tag, att_after, Place, arith, ◌≡◌, ◌⊎◌, inr, ℕ, zero, suc, Bool, true, false, List, [], ◌∷◌, ◌++◌, length, Some, Ok, Err, refl}
-use Rattle.nc_fields.specs.declared.place.Owner.TheVariants as owner
-use Rattle.nc_fields.specs.declared.place.FieldKind.TheVariants as field
+use Rattle.nc_findings.specs.declared.place.Owner.TheVariants as owner
+use Rattle.nc_findings.specs.declared.place.FieldKind.TheVariants as field
 use Rattle.nccheck_laws.proofs.Leaves.{is_leaf, leaf-field}
 
 -- ---- lists of fields

@@ -1,6 +1,6 @@
 -- What holds of each slot, of each block and at the end of the file if no finding is of a kind, and the converse.
 use Rattle.nccheck_laws.proofs.Prelude.{list_any, Contains, list_any-append, Slot, FileLayout, LayoutFinding, each_slot, layout_findings, LayoutFact, FindsNone, Extent, blocks, slot_findings, block_findings, end_findings, contains-none, contains-here, contains-there, contains-cases, ◌≡◌, ℕ, suc, ◌+◌, Bool, false, List, [], ◌∷◌, ◌++◌, refl, subst, arith, inl, inr, flat_map, common_steps}
-use Rattle.nc_layout.specs.declared.finding.LayoutFact.TheVariants as facts
+use Rattle.nc_findings.specs.declared.layout_fact.LayoutFact.TheVariants as facts
 use Rattle.nc_layout.specs.NumRecsRules.{numrecs_findings}
 use Rattle.nccheck_laws.proofs.IndexedSlots.{At}
 

@@ -2,7 +2,7 @@
 -- variable of the header has a first missing value.
 use Rattle.nccheck_laws.proofs.Prelude.{FormatFault, Dim, Header, Var, Bytes, SpellsHeader, reads, stops, Listing, without_values, layout_of, slot_of, Report, indexed, layout_facts, whole_findings, IsReport, var_without_values, list_any, list_any-append, list_any-IsPermutation, strict, Entry, Content, FieldKind, layout_findings, spelled-layout, Fact, Finding, Indexed, field_at, indexed_from, finding, facts_with, findings_at, field_findings, floating_findings, header_findings, vsize_findings, located, all_findings, has_any, finds, is_of_missing, is_missing, LayoutFact, LayoutFinding, ReportsTellMissingValues, is_of_layout, ◌≡◌, ℕ, ◌+◌, List, [], ◌∷◌, length, map, Ok, refl, ap, arith, Bool, false, flat_map, Option, Some, None, sym, ◌∙◌, common_steps}
 use Rattle.nccheck_laws.proofs.StrictHeaders.{strict-headers}
-use Rattle.nc_report.specs.declared.finding.Fact.TheVariants as fact
+use Rattle.nc_findings.specs.declared.finding.Fact.TheVariants as fact
 use Rattle.nccheck_laws.proofs.FaultFindings.{fault-fact}
 use Rattle.nccheck_laws.proofs.MissingValues.{missing-found}
 use Rattle.nccheck_laws.proofs.QuietRules.{is_layout, is_odd, fewer, plain-names, plain-attributes, plain-vsizes}

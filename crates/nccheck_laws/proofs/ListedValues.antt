@@ -2,8 +2,8 @@
 use Rattle.nccheck_laws.proofs.Prelude.{list_any-append, list_any_none, list_any-IsPermutation, FormatFault, Header, Bytes, header_by, stops, Entry, Field, fields, Seen, seen_by, seen, lenient, IsOutcome, layout_of, spelled-layout, Fact, Finding, Report, field_at, indexed_from, field_findings, facts_with, finding, findings_at, header_findings, all_findings, has_any, IsReport, is_of_missing, is_missing, is_of_shared_bytes, Severity, fault_fact, is_of_layout, arith, ◌≡◌, ℕ, ◌+◌, inl, inr, Bool, Option, Some, true, false, List, [], ◌∷◌, length, map, flat_map, Result, Ok, Err, refl, sym, ap, ◌∙◌, subst}
 use Rattle.nccheck_laws.proofs.MissingValues.{missing-found}
 use Rattle.nccheck_laws.proofs.SlabsApart.{quiet-apart}
-use Rattle.nc_report.specs.declared.kind.Severity.TheVariants.{Error}
-use Rattle.nc_report.specs.Kinds.{kind_of, severity_of}
+use Rattle.nc_findings.specs.declared.kind.Severity.TheVariants.{Error}
+use Rattle.nc_findings.specs.Kinds.{kind_of, severity_of}
 use Rattle.nccheck_laws.specs.ErrorLaws.{HasNoError, ListedHeadersTellMissingValues, ListedHeadersHaveSlabsApart, ReportsWithoutErrorsHaveValues}
 use Rattle.nccheck_laws.proofs.FaultFindings.{fault-fact}
 use Rattle.nccheck_laws.proofs.FieldPlaces.{HasFault, Shows, is_floating_fault, shown-faults}

@@ -1,6 +1,6 @@
 -- Each list of bytes has one report.
 use Rattle.nccheck_laws.proofs.Prelude.{Listing, Finding, Report, all_findings, IsPermutation-sym, IsPermutation-trans, finding_cmp, IsPermutation, same-lists, ◌≡◌, List, sym, subst}
-use Rattle.nc_report.proofs.Reported.{findings-total}
+use Rattle.nc_rules.proofs.Found.{findings-total}
 use Rattle.nccheck_laws.specs.OneReport.{EachFileHasReport, ReportsAreOne}
 use Rattle.nccheck_laws.proofs.OneListing.{listing_of, one-listing}
 use Rattle.nccheck_laws.proofs.SameFindings.{same-finding}

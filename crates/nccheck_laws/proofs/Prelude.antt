@@ -4,35 +4,37 @@ pub use Rattle.nc_base.proofs.PartOutcomes.{Tells, printed, reads, stops, tells}
 pub use Rattle.nc_base.proofs.Prelude.{be_bytes_4, be_bytes_8, mul-div_cancel}
 pub use Rattle.nc_base.proofs.Printable.{header-printable, one-total, total-append}
 pub use Rattle.nc_base.proofs.SlabBytes.{fixed-whole, record-whole}
-pub use Rattle.nc_base.specs.Bytes.{AreBytes, Bytes}
+pub use Rattle.nc_types.specs.Bytes.{AreBytes, Bytes}
 pub use Rattle.nc_base.specs.Datasets.{Fits, HoldsDataset}
 pub use Rattle.nc_base.specs.GeneratedFile.{begin_after, fixed_vars, known_records, record_part, slabs_before, vars_with_begins}
 unfoldable pub use Rattle.nc_base.specs.GeneratedFile.{data_of, file_of, with_begins}
-pub use Rattle.nc_base.specs.Grammar.{Rules, SpellsHeader, att_after, attribute_tag, checked, count_part, dim_after, dimension_tag, dimid_after, first, header_part, header_spelling, is_within_limits, strict, type_in, var_after, variable_tag, vsize_of}
+pub use Rattle.nc_base.specs.Grammar.{Rules, SpellsHeader, att_after, attribute_tag, checked, count_part, dim_after, dimension_tag, dimid_after, first, header_part, header_spelling, is_within_limits, strict, type_in, var_after, variable_tag}
 unfoldable pub use Rattle.nc_base.specs.Grammar.{att_list, att_part, counted, dim_list, dim_part, dimid_part, each, header_by, ignored, limited_part, list_head, list_part, magic_part, name_part, number, numrecs_part, offset_part, shape_part, type_part, var_list, var_part, version_part}
 pub use Rattle.nc_base.specs.Headers.{AreArrays, HasValidNames, IsGood, bare, bare_var}
-pub use Rattle.nc_base.specs.Names.{IsName, is_name, may_follow_in_name}
+pub use Rattle.nc_types.specs.Names.{IsName, is_name, may_follow_in_name}
 pub use Rattle.nc_base.specs.Parts.{Atts, Begin, Count, Dims, Gatts, Item, Length, Magic, Name, Padding, Part, Records, Shape, Step, Tag, Text, TypeCode, Values, Vars, VersionByte, Vsize, bytes, chain, decoded, done, under}
 unfoldable pub use Rattle.nc_base.specs.Parts.{Spells, print}
 pub use Rattle.nc_base.specs.Places.{distance, ends_after, first_missing, slab_strides, stored_bytes, vectors_below}
 unfoldable pub use Rattle.nc_base.specs.Places.{value_offsets}
 pub use Rattle.nc_base.specs.Sizes.{has_record_dim, is_record_var, least_begin, padded_size, padded_total, product, record_size_of, record_vars, records_between, slab_lens, slab_size}
-pub use Rattle.nc_base.specs.Types.{code_of, size_of}
-pub use Rattle.nc_base.specs.Versions.{count_limit, count_width, offset_limit, offset_width}
+pub use Rattle.nc_types.specs.Types.{code_of, size_of}
+pub use Rattle.nc_types.specs.Versions.{count_limit, count_width, offset_limit, offset_width, vsize_of}
 pub use Rattle.nc_base.specs.code.PartRuns.{IsPrintable, Outcome, StopsWith, and_then, with_rest}
 unfoldable pub use Rattle.nc_base.specs.code.PartRuns.{left_after, run}
-pub use Rattle.nc_base.specs.declared.{dataset.Dataset.Dataset, fault.FormatFault.FormatFault, header.Att.Att, header.Dim.Dim, header.Header.Header, header.NumRecs.NumRecs, header.Var.Var, nc_type.NcType.NcType, version.Version.Version}
+pub use Rattle.nc_base.specs.declared.{dataset.Dataset.Dataset, fault.FormatFault.FormatFault, header.Att.Att, header.Dim.Dim, header.Header.Header, header.NumRecs.NumRecs, header.Var.Var}
+pub use Rattle.nc_types.specs.declared.{nc_type.NcType.NcType, version.Version.Version}
 pub use Rattle.nc_base.specs.declared.fault.FormatFault.TheVariants.{BadCount, BadName, BadTag, FloatingType, HeaderTruncated, NotNetcdf, TooLarge, TwoRecordDims}
 pub use Rattle.nc_base.specs.declared.header.NumRecs.TheVariants.{Known}
 pub use Rattle.nc_fields.proofs.Checks.{IsField, bytes-field, decoded-field, fault_in}
-pub use Rattle.nc_fields.specs.Entries.{Seen, hdf5_signature, field_steps, owner_steps, seen_by, steps_of, whole_content}
+pub use Rattle.nc_fields.specs.Entries.{Seen, field_steps, owner_steps, seen_by, steps_of, whole_content}
+pub use Rattle.nc_findings.specs.Contents.{hdf5_signature}
 unfoldable pub use Rattle.nc_fields.specs.Entries.{seen}
 pub use Rattle.nc_fields.specs.Fields.{Field}
 unfoldable pub use Rattle.nc_fields.specs.Fields.{fields}
 pub use Rattle.nc_fields.specs.Lenient.{any_length_limit, is_no_control, lenient, may_be_name}
 pub use Rattle.nc_fields.specs.Listings.{IsListing, IsOutcome}
-pub use Rattle.nc_fields.specs.declared.{entry.Content.Content, entry.Entry.Entry, header.Listing.Listing, place.FieldKind.FieldKind, place.Owner.Owner, place.Place.Place}
-pub use Rattle.nc_file.proofs.PartRuns.{shorter}
+pub use Rattle.nc_findings.specs.declared.{listing.Listing.Listing, entry.Content.Content, entry.Entry.Entry, place.FieldKind.FieldKind, place.Owner.Owner, place.Place.Place, layout_fact.Block.Block, layout_fact.LayoutFact.LayoutFact, layout_fact.LayoutFinding.LayoutFinding, layout_fact.Slab.Slab, finding.Fact.Fact, finding.Finding.Finding, report.Report.Report, kind.Severity.Severity}
+pub use Rattle.nc_window.proofs.PartRuns.{shorter}
 pub use Rattle.nc_layout.proofs.BlockOrder.{contains-cases, contains-filter, contains-here, contains-none, contains-there, filter-contains}
 pub use Rattle.nc_layout.proofs.HeaderSlots.{record_slots-are, record_slots-total, slots-total}
 pub use Rattle.nc_layout.proofs.SpelledLayouts.{spelled-layout}
@@ -52,23 +54,24 @@ pub use Rattle.nc_layout.specs.Slots.{is_fixed, is_sole_narrow, least, padded_sl
 unfoldable pub use Rattle.nc_layout.specs.Slots.{record_count, record_size, records_begin, records_by_length}
 pub use Rattle.nc_layout.specs.code.PassedSlots.{is_record_slot}
 pub use Rattle.nc_layout.specs.code.Sweep.{padding_end, value_end}
-pub use Rattle.nc_layout.specs.declared.{blocks.Extent.Extent, file_end.SlabPlace.SlabPlace, finding.Block.Block, finding.LayoutFact.LayoutFact, finding.LayoutFinding.LayoutFinding, finding.Slab.Slab, slot.FileLayout.FileLayout, slot.Slot.Slot}
-pub use Rattle.nc_report.proofs.OneOrder.{UpTo, pairs-head, pairs-tail, same-lists}
-pub use Rattle.nc_report.specs.Ahead.{ahead_of, is_field, next_number, number_at}
-pub use Rattle.nc_report.specs.AttributeRules.{attribute_finding, empty_list, finding_by_kind}
-unfoldable pub use Rattle.nc_report.specs.AttributeRules.{attribute_findings}
-pub use Rattle.nc_report.specs.FieldRules.{facts_of, facts_with, fault_fact, findings_at, floating_finding, gzip_signature, has_nonzero, is_floating_in, is_large_count}
-unfoldable pub use Rattle.nc_report.specs.FieldRules.{field_findings, floating_findings}
-unfoldable pub use Rattle.nc_report.specs.HeaderRules.{header_findings}
-pub use Rattle.nc_report.specs.Indexed.{Indexed, each_after, each_before, field_at, finding, indexed, indexed_from}
-pub use Rattle.nc_report.specs.NameRules.{duplicate_name, is_first}
-unfoldable pub use Rattle.nc_report.specs.NameRules.{name_findings}
-pub use Rattle.nc_report.specs.Reports.{IsReport, finding_cmp}
-unfoldable pub use Rattle.nc_report.specs.Reports.{all_findings}
-pub use Rattle.nc_report.specs.WholeHeader.{is_vsize, layout_facts, located, named, vsize_finding}
-unfoldable pub use Rattle.nc_report.specs.WholeHeader.{vsize_findings, whole_findings}
-pub use Rattle.nc_report.specs.declared.{ahead.Ahead.Ahead, finding.Fact.Fact, finding.Finding.Finding, kind.Severity.Severity, report.Report.Report}
-pub use Rattle.nc_report.specs.declared.finding.Fact.TheVariants.{EmptyFile, Fault, Gzip, Hdf5}
+pub use Rattle.nc_layout.specs.declared.{blocks.Extent.Extent, file_end.SlabPlace.SlabPlace, slot.FileLayout.FileLayout, slot.Slot.Slot}
+pub use Rattle.nc_rules.proofs.OneOrder.{UpTo, pairs-head, pairs-tail, same-lists}
+pub use Rattle.nc_rules.specs.Ahead.{ahead_of, is_field, next_number, number_at}
+pub use Rattle.nc_rules.specs.AttributeRules.{attribute_finding, empty_list, finding_by_kind}
+unfoldable pub use Rattle.nc_rules.specs.AttributeRules.{attribute_findings}
+pub use Rattle.nc_rules.specs.FieldRules.{facts_of, facts_with, fault_fact, findings_at, floating_finding, gzip_signature, has_nonzero, is_floating_in, is_large_count}
+unfoldable pub use Rattle.nc_rules.specs.FieldRules.{field_findings, floating_findings}
+unfoldable pub use Rattle.nc_rules.specs.HeaderRules.{header_findings}
+pub use Rattle.nc_rules.specs.Indexed.{Indexed, each_after, each_before, field_at, finding, indexed, indexed_from}
+pub use Rattle.nc_rules.specs.NameRules.{duplicate_name, is_first}
+unfoldable pub use Rattle.nc_rules.specs.NameRules.{name_findings}
+pub use Rattle.nc_report.specs.Reports.{IsReport}
+pub use Rattle.nc_rules.specs.Findings.{finding_cmp}
+unfoldable pub use Rattle.nc_rules.specs.Findings.{all_findings}
+pub use Rattle.nc_rules.specs.WholeHeader.{is_vsize, layout_facts, located, named, vsize_finding}
+unfoldable pub use Rattle.nc_rules.specs.WholeHeader.{vsize_findings, whole_findings}
+pub use Rattle.nc_rules.specs.declared.{ahead.Ahead.Ahead}
+pub use Rattle.nc_findings.specs.declared.finding.Fact.TheVariants.{EmptyFile, Fault, Gzip, Hdf5}
 pub use Rattle.nccheck_laws.specs.Agreement.{LenientHeadersAreStrict, SpellsLeniently, StrictFaultsAreFirstRefusals, StrictHeadersAreLenient, UnrefusedHeadersAreSpelled, att_without_values, first_refusal, header_fields, refusal, refusal_in, var_without_values, without_values}
 pub use Rattle.nccheck_laws.specs.FaultLaws.{FaultlessHeadersAreReadable, FindsFirst, FirstFaultIsReaders, HasNoFault, IsReadable, ReportsTellMissingValues, is_fault, is_missing, strict_fault}
 pub use Rattle.nccheck_laws.specs.HeaderLaws.{CanonicalBeginsAreGenerated, GeneratedFilesAreQuiet, MissingValuesAreFound, QuietFilesAreGenerated, ShortFilesLackValues, finds, is_of_missing, lacks_values}

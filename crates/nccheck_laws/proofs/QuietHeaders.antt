@@ -1,6 +1,6 @@
 -- A report finds nothing about the spelling of a header exactly if it is spelled as it is written.
 use Rattle.nccheck_laws.proofs.Prelude.{nat_tests, common_steps, option_map, list_any_none, list_any-append, list_any-IsPermutation, Var, Header, Version, Bytes, SpellsHeader, Step, vsize_of, header_by, Entry, FieldKind, Owner, Field, lenient, field_steps, owner_steps, whole_content, header_fields, without_values, number_of, IsWrittenVsize, Slot, layout_of, layout_findings, Finding, Indexed, indexed_from, indexed, is_vsize, named, vsize_finding, whole_findings, vsize_findings, all_findings, is_of_spelling, padded_slab_len, padded_size, slot_of, LayoutFinding, Listing, Report, IsReport, file_of, slice_get-map, with_begins, data_of, QuietSpellingsAreCanonical, CanonicalSpellingsAreQuiet, QuietHeadersAreCanonical, GeneratedFilesHaveQuietSpellings, ◌≡◌, ◌↔◌, ℕ, suc, ◌+◌, ◌||◌, Bool, true, false, List, [], ◌∷◌, ◌++◌, length, map, Option, Some, None, Ok, refl, sym, ap, ◌∙◌, subst, arith, slice_get, IfSome, option_to_list, if◌then◌else◌}
-use Rattle.nc_fields.specs.Entries.{number_of as content_number}
+use Rattle.nc_findings.specs.Contents.{number_of as content_number}
 use Rattle.nccheck_laws.proofs.StrictHeaders.{strict-headers}
 use Rattle.nccheck_laws.proofs.WrittenParts.{written-fields, header-canonical}
 use Rattle.nccheck_laws.proofs.Vsizes.{Counts, spelled-whole, is_vsize_at, AreNumbered, header-numbered}

@@ -1,11 +1,11 @@
 -- The order of findings tells all of them apart.
 use Rattle.nccheck_laws.proofs.Prelude.{FormatFault, Fact, Finding, Ordering, Equal, LayoutFact, finding_cmp, option_cmp, is_eq, nat_cmp, ordering_then, ranked, Block, Slab, ◌≡◌, ℕ, false, refl, sym, ap, Option, arith}
-use Rattle.nc_report.specs.declared.finding.Fact.TheVariants as fact
+use Rattle.nc_findings.specs.declared.finding.Fact.TheVariants as fact
 use Rattle.nc_base.specs.contracts.fault.FormatFaultOrd.TheImpl as faults
-use Rattle.nc_layout.specs.contracts.finding.BlockOrd.TheImpl as blocks
-use Rattle.nc_layout.specs.contracts.finding.SlabOrd.TheImpl as slabs
-use Rattle.nc_layout.specs.contracts.finding.LayoutFactOrd.TheImpl as layouts
-use Rattle.nc_report.specs.contracts.finding.FactOrd.TheImpl as facts
+use Rattle.nc_findings.specs.contracts.layout_fact.BlockOrd.TheImpl as blocks
+use Rattle.nc_findings.specs.contracts.layout_fact.SlabOrd.TheImpl as slabs
+use Rattle.nc_findings.specs.contracts.layout_fact.LayoutFactOrd.TheImpl as layouts
+use Rattle.nc_findings.specs.contracts.finding.FactOrd.TheImpl as facts
 
 -- ---- parts
 

@@ -1,6 +1,6 @@
 -- What is found about the spelling at whole fields: that of what fills one up a byte isn't 0, and that a list has its own tag and no elements.
 use Rattle.nccheck_laws.proofs.Prelude.{list_any-append, nat_tests, ltb-false, Header, FormatFault, Bytes, Step, Padding, Tag, Vsize, Item, Content, Entry, FieldKind, Owner, Field, seen_by, steps_of, field_steps, owner_steps, whole_content, seen, bytes_of, number_of, IsWritten, IsWrittenVsize, AreWritten, Fact, Finding, Indexed, field_at, indexed_from, indexed, finding, each_before, ahead_of, finding_by_kind, attribute_finding, is_first, facts_with, field_findings, attribute_findings, floating_findings, name_findings, header_findings, is_of_spelling, has_any, is_field, next_number, number_at, empty_list, has_nonzero, then_some, IsWrittenTag, ◌≡◌, ℕ, ◌+◌, ◌==◌, ◌&&◌, ◌||◌, not, Bool, false, List, [], ◌∷◌, ◌++◌, length, map, replicate, Option, None, refl, ap, ◌∙◌, arith, length-take-le, if◌then◌else◌, option_to_list, common_steps}
-use Rattle.nc_fields.specs.declared.entry.Content.TheVariants as content
+use Rattle.nc_findings.specs.declared.entry.Content.TheVariants as content
 use Rattle.nccheck_laws.proofs.QuietRules.{names-fail}
 use Rattle.nccheck_laws.proofs.Vsizes.{IsWhole, AreWhole}
 

@@ -4,7 +4,7 @@ use Rattle.nc_base.specs.Sizes.{record_count, record_size}
 use Rattle.nccheck_laws.specs.ErrorLaws.{ApartSlabsHaveValuesApart, HaveOwnBytes, ValuePlace, value_place, value_places, variable_places}
 use Rattle.nccheck_laws.proofs.HeaderRecords.{count-is, size-is}
 use Rattle.nccheck_laws.proofs.SlabsApart.{append-pairs, next-record}
-use Rattle.nc_layout.specs.declared.finding.Slab.TheVariants as slabs
+use Rattle.nc_findings.specs.declared.layout_fact.Slab.TheVariants as slabs
 use Rattle.nccheck_laws.proofs.WholeSlots.{fixed_slab}
 use Rattle.nccheck_laws.proofs.WholeVariables.{at, row, row-same}
 

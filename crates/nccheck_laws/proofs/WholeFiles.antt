@@ -4,7 +4,7 @@ use Rattle.std.proofs.Common.{get_or, ◌||◌}
 use Rattle.std.proofs.lemmas.List.Folds.{list_any_at}
 use Rattle.nc_base.specs.Dump.{Options, Ending, whole, IsDump, stopped, unknown, shown}
 use Rattle.nc_base.specs.Sizes.{record_count}
-use Rattle.nc_report.specs.Kinds.{kind_of}
+use Rattle.nc_findings.specs.Kinds.{kind_of}
 use Rattle.nccheck_laws.specs.FaultLaws.{finds_missing}
 use Rattle.nccheck_laws.specs.ReportLaws.{MissingValuesStopDumps, is_truncated, stops_dump}
 use Rattle.nccheck_laws.proofs.FirstFaults.{faultless}

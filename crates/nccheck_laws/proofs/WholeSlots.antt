@@ -1,7 +1,7 @@
 -- The slots whose slabs are all whole in the file, the end of the values, and the first slab that isn't whole.
 use Rattle.nccheck_laws.proofs.Prelude.{Contains, lt-ltb, nat_tests, get_or-map-range_with_len, length-map-range_with_len, mul-le-mul_right, Slot, FileLayout, Extent, LayoutFact, Slab, SlabPlace, is_fixed, record_size, record_count, slot_block, records_block, blocks, has_values, values_end, first_slab, is_cut, record_slab, slabs_of, all_slabs, first_cut_slab, end_findings, IsSoundSlot, IsSoundLayout, contains-here, contains-none, contains-cases, contains-filter, filter-contains, greatest_from-above, greatest_from-least, MissingValuesHaveSlab, ◌≡◌, ℕ, ◌+◌, ◌-◌, ◌*◌, ◌<◌, ◌≤◌, Bool, true, false, not, List, [], ◌∷◌, filter, ap, arith, All, Some, None, slice_get, common_steps}
-use Rattle.nc_layout.specs.declared.finding.Slab.TheVariants as slabs
-use Rattle.nc_layout.specs.declared.finding.LayoutFact.TheVariants as facts
+use Rattle.nc_findings.specs.declared.layout_fact.Slab.TheVariants as slabs
+use Rattle.nc_findings.specs.declared.layout_fact.LayoutFact.TheVariants as facts
 use Rattle.nccheck_laws.proofs.FoundNone.{Quiet}
 use Rattle.nccheck_laws.proofs.IndexedSlots.{all-at, at-all, there-from}
 use Rattle.nccheck_laws.proofs.LayoutBlocks.{each-block, fixed-there, records-there, records_end-above, records_end-le, first_begin, begins}

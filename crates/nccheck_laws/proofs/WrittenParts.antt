@@ -1,7 +1,7 @@
 -- A header is spelled as it is written exactly if its fields are as they are written.
 use Rattle.nccheck_laws.proofs.Prelude.{Text, attribute_tag, att_after, is_name, BadName, HeaderTruncated, nat_tests, common_steps, w32, FormatFault, Dim, Var, Header, Version, BadCount, Bytes, count_width, padded_size, Step, Part, under, Spells, Tag, Count, Item, Vsize, strict, checked, variable_tag, dimid_after, var_after, vsize_of, header_part, number, limited_part, offset_part, name_part, type_part, each, counted, list_head, list_part, dim_part, dim_list, att_part, att_list, dimid_part, shape_part, var_part, var_list, version_part, magic_part, numrecs_part, header_by, Field, fields, AreWritten, bytes_eq, Att, NcType, TooLarge, count_limit, is_within_limits, count_part, first, drop-append_seam, mul-div_cancel, NumRecs, BadTag, code_of, type_in, WrittenFieldsAreCanonical, done, bytes, decoded, chain, Padding, ignored, AreBytes, print, IsPrintable, printed, Width, to_be_bytes, has_nonzero, All-nil, All-cons, All-append, SpellsHeader, header_fields, lenient, without_values, offset_limit, header_spelling, header-printable, CanonicalFieldsAreWritten, ◌≡◌, ℕ, suc, zero, ◌==◌, ◌||◌, not, Bool, true, false, List, [], ◌∷◌, ◌++◌, length, take, drop, Some, Ok, refl, sym, ap, ◌∙◌, subst, arith, append_assoc, append-nil, codes, if◌then◌else◌, slice_get, eqb-true, replicate, ◌<◌, All}
 use lib.ListN.{length-replicate}
-use Rattle.nc_base.specs.Bytes.{padding_len}
+use Rattle.nc_types.specs.Bytes.{padding_len}
 use Rattle.std.proofs.lemmas.Slice.Eq.{bytes_eq-Decides}
 use Rattle.nc_base.proofs.SoundLaws.{some_size}
 use Rattle.nc_base.proofs.SoundSpelling.{spelled-sound}

@@ -4,17 +4,17 @@
 use Rattle.std.specs.Prelude.{ℕ, ◌≡◌, ◌↔◌, ◌==◌, ◌||◌, nat_lt, if◌then◌else◌, List, [], ◌∷◌, length, drop, map, Option, Some, None}
 use Rattle.nc_base.specs.declared.{fault.FormatFault.FormatFault, header.Att.Att, header.Var.Var, header.Header.Header}
 use Rattle.nc_base.specs.declared.fault.FormatFault.TheVariants.{BadCount, BadName, FloatingType}
-use Rattle.nc_base.specs.Bytes.{Bytes}
-use Rattle.nc_base.specs.Names.{is_name}
+use Rattle.nc_types.specs.Bytes.{Bytes}
+use Rattle.nc_types.specs.Names.{is_name}
 use Rattle.nc_base.specs.Parts.{Step, Records, Name, Length, Text, TypeCode, Spells}
 use Rattle.nc_base.specs.Grammar.{header_by, header_part, SpellsHeader}
 use Rattle.nc_base.specs.code.PartRuns.{StopsWith}
-use Rattle.nc_fields.specs.declared.entry.Content.{Content}
-use Rattle.nc_fields.specs.declared.entry.Content.TheVariants as content
+use Rattle.nc_findings.specs.declared.entry.Content.{Content}
+use Rattle.nc_findings.specs.declared.entry.Content.TheVariants as content
 use Rattle.nc_fields.specs.Fields.{Field, fields}
 use Rattle.nc_fields.specs.Entries.{whole_content}
 use Rattle.nc_fields.specs.Lenient.{lenient}
-use Rattle.nc_report.specs.FieldRules.{is_large_count, is_large_numrecs}
+use Rattle.nc_rules.specs.FieldRules.{is_large_count, is_large_numrecs}
 
 -- ---- the fields that the strict rules refuse
 

@@ -3,16 +3,16 @@
 use Rattle.std.specs.Prelude.{ℕ, ◌≡◌, ◌≢◌, ◌+◌, ◌≤◌, ◌⊎◌, false, List, flat_map, length, map, Ok}
 use Rattle.std.specs.List.{All, AllPairs, list_any}
 use Rattle.nc_base.specs.declared.{header.Header.Header, header.Var.Var}
-use Rattle.nc_base.specs.Bytes.{Bytes}
+use Rattle.nc_types.specs.Bytes.{Bytes}
 use Rattle.nc_base.specs.Places.{value_offsets}
 use Rattle.nc_base.specs.Sizes.{record_count}
-use Rattle.nc_base.specs.Types.{size_of}
+use Rattle.nc_types.specs.Types.{size_of}
 use Rattle.nc_layout.specs.HeaderLayout.{layout_of}
 use Rattle.nccheck_laws.specs.HeaderLaws.{lacks_values}
 use Rattle.nccheck_laws.specs.LayoutLaws.{is_of_shared_bytes, SharesNoByte}
-use Rattle.nc_report.specs.declared.{finding.Finding.Finding, report.Report.Report}
-use Rattle.nc_report.specs.declared.kind.Severity.TheVariants.{Error}
-use Rattle.nc_report.specs.Kinds.{kind_of, severity_of}
+use Rattle.nc_findings.specs.declared.{finding.Finding.Finding, report.Report.Report}
+use Rattle.nc_findings.specs.declared.kind.Severity.TheVariants.{Error}
+use Rattle.nc_findings.specs.Kinds.{kind_of, severity_of}
 use Rattle.nc_report.specs.Reports.{IsReport}
 use Rattle.nccheck_laws.specs.FaultLaws.{finds_missing}
 use Rattle.nccheck_laws.specs.ReportLaws.{has_any, is_of_layout}

@@ -3,12 +3,12 @@ use Rattle.std.specs.Prelude.{ℕ, ◌≡◌, ◌+◌, ◌≤◌, ◌↔◌, min
 use Rattle.std.specs.List.{All, Contains, list_any}
 use Rattle.nc_base.specs.declared.{fault.FormatFault.FormatFault, header.Header.Header}
 use Rattle.nc_base.specs.declared.fault.FormatFault.TheVariants.{NotNetcdf, BadCount, BadName}
-use Rattle.nc_base.specs.Bytes.{Bytes}
+use Rattle.nc_types.specs.Bytes.{Bytes}
 use Rattle.nc_base.specs.Grammar.{SpellsHeader, StopsAt}
-use Rattle.nc_fields.specs.declared.entry.Entry.{Entry}
+use Rattle.nc_findings.specs.declared.entry.Entry.{Entry}
 use Rattle.nccheck_laws.specs.HeaderLaws.{is_of_missing, lacks_values}
-use Rattle.nc_report.specs.declared.{finding.Fact.Fact, finding.Finding.Finding, report.Report.Report}
-use Rattle.nc_report.specs.declared.finding.Fact.TheVariants.{Fault, Hdf5, Gzip, EmptyFile, NameCharacters, LargeCount, Layout}
+use Rattle.nc_findings.specs.declared.{finding.Fact.Fact, finding.Finding.Finding, report.Report.Report}
+use Rattle.nc_findings.specs.declared.finding.Fact.TheVariants.{Fault, Hdf5, Gzip, EmptyFile, NameCharacters, LargeCount, Layout}
 use Rattle.nc_report.specs.Reports.{IsReport}
 
 -- the fault with which the programs that read values stop at the field at which this fact lies, if they do

@@ -5,15 +5,16 @@ use Rattle.std.specs.Prelude.{ℕ, ◌≡◌, ◌+◌, nat_lt, Bool, true, false
 use Rattle.std.specs.List.{list_any}
 use Rattle.nc_base.specs.declared.{header.Header.Header, header.Var.Var}
 use Rattle.nc_base.specs.declared.header.NumRecs.TheVariants.{Known}
-use Rattle.nc_base.specs.Bytes.{Bytes}
+use Rattle.nc_types.specs.Bytes.{Bytes}
 use Rattle.nc_base.specs.GeneratedFile.{file_of, with_begins}
 use Rattle.nc_base.specs.Grammar.{Rules, header_by, header_spelling}
 use Rattle.nc_base.specs.Headers.{AreArrays, bare}
 use Rattle.nc_base.specs.Parts.{Spells}
 use Rattle.nc_base.specs.Places.{first_missing}
 use Rattle.nc_base.specs.Sizes.{record_count}
-use Rattle.nc_layout.specs.declared.{slot.FileLayout.FileLayout, finding.LayoutFact.LayoutFact, finding.LayoutFinding.LayoutFinding}
-use Rattle.nc_layout.specs.declared.finding.LayoutFact.TheVariants.{Missing}
+use Rattle.nc_layout.specs.declared.{slot.FileLayout.FileLayout}
+use Rattle.nc_findings.specs.declared.{layout_fact.LayoutFact.LayoutFact, layout_fact.LayoutFinding.LayoutFinding}
+use Rattle.nc_findings.specs.declared.layout_fact.LayoutFact.TheVariants.{Missing}
 use Rattle.nc_layout.specs.FileEnd.{values_end}
 use Rattle.nc_layout.specs.Findings.{IsSoundLayout, layout_findings}
 use Rattle.nc_layout.specs.HeaderLayout.{layout_of}

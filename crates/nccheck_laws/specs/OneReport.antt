@@ -1,7 +1,7 @@
 -- Law. Each list of bytes has exactly one report.
 use Rattle.std.specs.Prelude.{◌≡◌}
-use Rattle.nc_base.specs.Bytes.{Bytes}
-use Rattle.nc_report.specs.declared.report.Report.{Report}
+use Rattle.nc_types.specs.Bytes.{Bytes}
+use Rattle.nc_findings.specs.declared.report.Report.{Report}
 use Rattle.nc_report.specs.Reports.{IsReport}
 
 -- each list of bytes has a report

@@ -7,18 +7,18 @@ use Rattle.std.specs.Prelude.{ℕ, ◌≡◌, ◌↔◌, Bool, true, false, List
 use Rattle.std.specs.List.{All, list_any}
 use Rattle.nc_base.specs.declared.{dataset.Dataset.Dataset, header.Header.Header}
 use Rattle.nc_base.specs.declared.header.NumRecs.TheVariants.{Known}
-use Rattle.nc_base.specs.Bytes.{Bytes, AreBytes}
+use Rattle.nc_types.specs.Bytes.{Bytes, AreBytes}
 use Rattle.nc_base.specs.Datasets.{HoldsDataset, Fits}
 use Rattle.nc_base.specs.Dump.{Options, Ending, whole, data_truncated, IsDump}
 use Rattle.nc_base.specs.GeneratedFile.{file_of, with_begins}
 use Rattle.nc_base.specs.Grammar.{SpellsHeader, header_spelling}
 use Rattle.nc_base.specs.Headers.{AreArrays, IsGood, bare}
-use Rattle.nc_layout.specs.declared.finding.LayoutFact.{LayoutFact}
+use Rattle.nc_findings.specs.declared.layout_fact.LayoutFact.{LayoutFact}
 use Rattle.nccheck_laws.specs.LayoutLaws.{is_of_begin, is_of_end}
-use Rattle.nc_report.specs.declared.{finding.Fact.Fact, finding.Finding.Finding, kind.Kind.Kind, report.Report.Report}
-use Rattle.nc_report.specs.declared.finding.Fact.TheVariants as fact
-use Rattle.nc_report.specs.declared.kind.Kind.TheVariants.{NotNetcdf, Hdf5, Gzip, EmptyFile, UnknownVersion, HeaderTruncated, BadTag, BadCount, BadName, NameCharacters, FloatingType, BadType, BadShape, TwoRecordDims, TooLarge, BadOffset, LargeCount, Missing}
-use Rattle.nc_report.specs.Kinds.{kind_of}
+use Rattle.nc_findings.specs.declared.{finding.Fact.Fact, finding.Finding.Finding, report.Report.Report, kind.Kind.Kind}
+use Rattle.nc_findings.specs.declared.finding.Fact.TheVariants as fact
+use Rattle.nc_findings.specs.declared.kind.Kind.TheVariants.{NotNetcdf, Hdf5, Gzip, EmptyFile, UnknownVersion, HeaderTruncated, BadTag, BadCount, BadName, NameCharacters, FloatingType, BadType, BadShape, TwoRecordDims, TooLarge, BadOffset, LargeCount, Missing}
+use Rattle.nc_findings.specs.Kinds.{kind_of}
 use Rattle.nc_report.specs.Reports.{IsReport}
 use Rattle.nccheck_laws.specs.FaultLaws.{HasNoFault, finds_missing}
 

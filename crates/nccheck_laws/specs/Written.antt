@@ -2,10 +2,11 @@
 -- has a tag other than 0, and each vsize is the one that is written for its variable. Nothing else in a header can be spelled in two ways.
 use Rattle.std.specs.Prelude.{ℕ, ◌≡◌, ◌==◌, ◌&&◌, not, false, List, [], ◌∷◌, ◌++◌, take, replicate, slice_get, IfSome}
 use Rattle.nc_base.specs.declared.{header.Var.Var, header.Header.Header}
-use Rattle.nc_base.specs.Bytes.{Bytes, AreBytes}
+use Rattle.nc_types.specs.Bytes.{Bytes, AreBytes}
 use Rattle.nc_base.specs.Sizes.{padded_size}
 use Rattle.nc_base.specs.Parts.{Step, Tag, Count, Item, Padding, Vsize}
-use Rattle.nc_base.specs.Grammar.{vsize_of, SpellsHeader, header_spelling}
+use Rattle.nc_base.specs.Grammar.{SpellsHeader, header_spelling}
+use Rattle.nc_types.specs.Versions.{vsize_of}
 use Rattle.nc_fields.specs.Fields.{Field}
 use Rattle.nc_fields.specs.Entries.{number_in}
 use Rattle.nccheck_laws.specs.Agreement.{header_fields}

@@ -1,19 +1,12 @@
 //! Laws of the definitions in `specs/`, each the contract of a function that does nothing.
 
-ghost use Rattle.nccheck_laws.specs.LayoutLaws.{QuietBeginsAreCanonical, QuietLengthIsCanonical, QuietSlabsAreApart, MissingValuesHaveSlab};
-ghost use Rattle.nccheck_laws.specs.LayoutLaws.{CanonicalBeginsAreQuiet, CanonicalLengthIsQuiet};
-ghost use Rattle.nccheck_laws.specs.HeaderLaws.{SpelledHeadersHaveSoundLayouts, CanonicalBeginsAreGenerated, QuietFilesAreGenerated};
-ghost use Rattle.nccheck_laws.specs.HeaderLaws.{GeneratedFilesAreQuiet};
-ghost use Rattle.nccheck_laws.specs.HeaderLaws.{ShortFilesLackValues, MissingValuesAreFound};
+ghost use Rattle.nccheck_laws.specs.LayoutLaws.{QuietBeginsAreCanonical, QuietLengthIsCanonical, QuietSlabsAreApart, MissingValuesHaveSlab, CanonicalBeginsAreQuiet, CanonicalLengthIsQuiet};
+ghost use Rattle.nccheck_laws.specs.HeaderLaws.{SpelledHeadersHaveSoundLayouts, CanonicalBeginsAreGenerated, QuietFilesAreGenerated, GeneratedFilesAreQuiet, ShortFilesLackValues, MissingValuesAreFound};
 ghost use Rattle.nccheck_laws.specs.Agreement.{StrictHeadersAreLenient, LenientHeadersAreStrict, UnrefusedHeadersAreSpelled, StrictFaultsAreFirstRefusals};
 ghost use Rattle.nccheck_laws.specs.Written.{WrittenFieldsAreCanonical, CanonicalFieldsAreWritten};
 ghost use Rattle.nccheck_laws.specs.FaultLaws.{FaultlessHeadersAreReadable, FirstFaultIsReaders, ReportsTellMissingValues};
-ghost use Rattle.nccheck_laws.specs.ReportLaws.{QuietSpellingsAreCanonical, CanonicalSpellingsAreQuiet, QuietHeadersAreCanonical};
-ghost use Rattle.nccheck_laws.specs.ReportLaws.{QuietFilesAreCanonical};
-ghost use Rattle.nccheck_laws.specs.ErrorLaws.{ListedHeadersTellMissingValues, ListedHeadersHaveSlabsApart, ApartSlabsHaveValuesApart};
-ghost use Rattle.nccheck_laws.specs.ErrorLaws.{ReportsWithoutErrorsHaveValues};
-ghost use Rattle.nccheck_laws.specs.ReportLaws.{WholeReportsAreDumped, MissingValuesStopDumps, WholeFilesHoldDatasets, GeneratedFilesAreFoundWhole};
-ghost use Rattle.nccheck_laws.specs.ReportLaws.{GeneratedFilesHaveQuietLayouts, GeneratedFilesHaveQuietSpellings};
+ghost use Rattle.nccheck_laws.specs.ReportLaws.{QuietSpellingsAreCanonical, CanonicalSpellingsAreQuiet, QuietHeadersAreCanonical, QuietFilesAreCanonical, WholeReportsAreDumped, MissingValuesStopDumps, WholeFilesHoldDatasets, GeneratedFilesAreFoundWhole, GeneratedFilesHaveQuietLayouts, GeneratedFilesHaveQuietSpellings};
+ghost use Rattle.nccheck_laws.specs.ErrorLaws.{ListedHeadersTellMissingValues, ListedHeadersHaveSlabsApart, ApartSlabsHaveValuesApart, ReportsWithoutErrorsHaveValues};
 ghost use Rattle.nccheck_laws.specs.OneReport.{EachFileHasReport, ReportsAreOne};
 
 /// States two laws of the findings of `nc_layout`, and does nothing. The values of a variable that isn't a record variable are a block, and

@@ -1,8 +1,8 @@
 -- A dump from reading the header, selecting variables and showing them.
 use Rattle.ncdump.proofs.Prelude.{◌≡◌, ℕ, ◌+◌, inl, inr, Bool, true, List, [], ◌++◌, length, Result, Ok, Err, refl, sym, ap, subst, ◌∙◌, append_assoc, ◌&&◌, arith, None, OnTrue, appended_none, Header, SpellsHeader, record_count, Options, DataText, closing_word, first_unknown, selection_of, dump_text, has_values, IsDump, stopped, unknown, shown, SourceView, SinkView, transparent_map, transparent_both, DumpFault, OutOfMemory, ReadFailed, WriteFailed, Format, NoSuchVariable, Dumped, dumped, prefix_text, selected_values, values_from, unless_head_only, text_before, KeepsUpIn, Shows, Dumps, ReadsForward, IsAfterHeader, in_header, between}
 use Rattle.nc_file.specs.code.Answers.{IsRead, Answers, HasAnswered, header_end, fault_end}
-use Rattle.nc_file.specs.declared.head_fault.HeadFault.{HeadFault}
-use Rattle.nc_file.specs.declared.head_fault.HeadFault.TheVariants as head
+use Rattle.nc_window.specs.declared.head_fault.HeadFault.{HeadFault}
+use Rattle.nc_window.specs.declared.head_fault.HeadFault.TheVariants as head
 use Rattle.ncdump.specs.code.HeadFaults.{fault_of_head}
 use Rattle.ncdump.specs.code.Selections.{Selects}
 use Rattle.ncdump.proofs.Calls.{call}

@@ -19,7 +19,7 @@ pub use Rattle.nc_base.specs.Headers.{IsSoundVar}
 pub use Rattle.nc_base.specs.Sizes.{value_count, is_record_var, record_count}
 unfoldable pub use Rattle.nc_base.specs.Numbers.{numbers}
 pub use Rattle.nc_base.specs.Places.{first_missing, stored_values}
-pub use Rattle.nc_base.specs.Types.{size_of}
+pub use Rattle.nc_types.specs.Types.{size_of}
 pub use Rattle.nc_base.specs.ValueText.{Look}
 pub use Rattle.nc_base.specs.code.LaterPieces.{later_pieces}
 unfoldable pub use Rattle.nc_base.specs.ValueText.{variable_closing, look_of, variable_opening, variable_prefix, variable_text}

@@ -1,7 +1,7 @@
 -- Showing one selected variable after the other.
 use Rattle.ncdump.proofs.Prelude.{◌≡◌, ℕ, ◌+◌, ◌<◌, ◌≤◌, ◌⊎◌, inl, inr, Bool, true, false, List, [], ◌∷◌, ◌++◌, length, drop, get_or, refl, sym, ap, ◌∙◌, append_assoc, subst, arith, Option, Some, None, Result, Ok, Err, ℤ, slice_get, ◌&&◌, if◌then◌else◌, IfSome, rules, OnTrue, drop-cons, append-nil, drop_all, get_or_from_slice_get, slice_get_within, slice_get-get_or, Var, Look, look_of, DataText, no_data_text, whole, data_truncated, values_in_file, has_values, with_variable, variables_text, shown_data, SourceView, having_read, SinkView, Appended, FailedPartway, appended_then, appended_partway, after_after, transparent_both, DumpFault, ReadFailed, WriteFailed, DataTruncated, Dumped, dumped, prefix_text, ShowsOne, ShowsAt, ShowsSelected, values_and, values_alone, values_from, whole_values, whole_bytes, bytes_of, Holds, KeepsUp, KeepsUpIn, IsBefore, IsShown, IsUnread, IsUnwritten, IsUpToDate, AreShown, AreUnread, AreUnwritten, between}
 use Rattle.ncdump.proofs.OneVariable.{some-at}
-use Rattle.nc_base.specs.declared.nc_type.NcType.TheVariants.{Byte}
+use Rattle.nc_types.specs.declared.nc_type.NcType.TheVariants.{Byte}
 use Rattle.ncdump.proofs.Calls.{call}
 use Rattle.ncdump.proofs.Prefixes.{prefix-in-text}
 use Rattle.ncdump.proofs.Held.{holds-all, holds-prefix, holds-after, holds-partway}

@@ -1,6 +1,6 @@
 -- The text of a dump from its parts.
 use Rattle.ncdump.proofs.Prelude.{◌≡◌, ℕ, inl, inr, Bool, List, [], ◌++◌, refl, sym, ap, ◌∙◌, append_assoc, codes, subst, Ok, Err, rules, append-nil, Header, head_text, Options, DataText, Ending, whole, data_truncated, data_word, closing_word, dump_text, SourceView, SinkView, Appended, FailedPartway, appended_then, appended_partway, DumpFault, ReadFailed, WriteFailed, DataTruncated, Dumped, dumped, selected_values, text_before, unless_head_only, KeepsUpIn, IsUpToDate, Holds, ShowsSelected, Shows, between}
-use Rattle.nc_base.specs.Bytes.{concat_parts}
+use Rattle.nc_types.specs.Bytes.{concat_parts}
 use Rattle.ncdump.proofs.Calls.{call}
 use Rattle.ncdump.proofs.Held.{holds-after, holds-partway, partway-longer}
 

@@ -1,6 +1,6 @@
 -- Definition. What a call did with its source and its sink, through the caller's buffer.
 use Rattle.std.specs.Prelude.{ℕ, length}
-use Rattle.nc_base.specs.Bytes.{Bytes}
+use Rattle.nc_types.specs.Bytes.{Bytes}
 use Rattle.devices.specs.Sinks.{SinkView}
 use Rattle.devices.specs.Sources.{SourceView}
 use Rattle.devices.specs.Uses.{Use}

@@ -1,13 +1,14 @@
 -- Definition. What a call of `dump` has done. `Dumps` and `ReadsForward` hold if the source is transparent.
 use Rattle.std.specs.Prelude.{ℕ, ◌≡◌, ◌+◌, ◌⊎◌, ◌++◌, length, None, Result, Ok, Err}
-use Rattle.nc_base.specs.Bytes.{Bytes}
+use Rattle.nc_types.specs.Bytes.{Bytes}
 use Rattle.nc_base.specs.declared.header.Header.{Header}
 use Rattle.nc_base.specs.Grammar.{SpellsHeader}
 use Rattle.nc_base.specs.Sizes.{record_count}
 use Rattle.nc_base.specs.Dump.{Options, Ending, whole, wrong_field, no_such_variable, data_truncated, first_unknown, selection_of, IsDump}
 use Rattle.devices.specs.Failures.{HasFailed}
 use Rattle.devices.specs.Sources.{SourceView}
-use Rattle.nc_file.specs.code.Answers.{EndsAt, ReadUpTo}
+use Rattle.nc_file.specs.code.Answers.{EndsAt}
+use Rattle.nc_window.specs.code.Window.{ReadUpTo}
 use Rattle.devices.specs.Sinks.{SinkView, Appended, FailedPartway}
 use Rattle.devices.specs.Uses.{between}
 use Rattle.ncdump.specs.Calls.{Call}

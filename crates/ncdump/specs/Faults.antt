@@ -1,6 +1,6 @@
 -- Definition. The faults of a run, and the lines that tell them.
 use Rattle.std.specs.Prelude.{[], ◌∷◌, codes, decimal, string_bytes}
-use Rattle.nc_base.specs.Bytes.{Bytes, concat_parts}
+use Rattle.nc_types.specs.Bytes.{Bytes, concat_parts}
 use Rattle.nc_base.specs.FaultWords.{format_text}
 use Rattle.ncdump.specs.declared.{fault.DumpFault.DumpFault, fault.FileFault.FileFault, fault.Failure.Failure}
 use Rattle.ncdump.specs.declared.fault.DumpFault.TheVariants.{OutOfMemory, ReadFailed, WriteFailed, Format, NoSuchVariable, DataTruncated}

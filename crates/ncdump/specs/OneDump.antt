@@ -1,6 +1,6 @@
 -- Law. There is one dump of a file under all options, and each call that meets no failure writes it.
 use Rattle.std.specs.Prelude.{◌≡◌, Result, Err}
-use Rattle.nc_base.specs.Bytes.{Bytes}
+use Rattle.nc_types.specs.Bytes.{Bytes}
 use Rattle.nc_base.specs.Dump.{Options, Ending, IsDump}
 use Rattle.devices.specs.Sinks.{SinkView, Appended}
 use Rattle.ncdump.specs.declared.fault.DumpFault.{DumpFault}

@@ -2,7 +2,7 @@
 use Rattle.std.specs.Prelude.{ℕ, ◌≡◌, ◌⊎◌, false, List, Option, Some, None, IsSomeAnd, Result, Ok, Err, string_bytes}
 use Rattle.std.specs.Bool.{OnTrue}
 use Rattle.std.specs.Borrow.{Bor}
-use Rattle.nc_base.specs.Bytes.{Bytes}
+use Rattle.nc_types.specs.Bytes.{Bytes}
 use Rattle.nc_base.specs.Dump.{Options}
 use Rattle.devices.specs.Failures.{HasFailed, one_more}
 use Rattle.devices.specs.Openers.{OpenerView, OpenerUse}

@@ -6,9 +6,8 @@ ghost use Rattle.std.specs.Int.{is_in_range};
 ghost use Rattle.std.specs.List.{list_all};
 ghost use Rattle.clap.specs.Words.{app_of, found_of, rows_of};
 ghost use Rattle.nc_base.specs.Paths.{stem_of};
-ghost use Rattle.cli_base.specs.code.Answers.{AnswersBy};
+ghost use Rattle.cli_base.specs.code.Answers.{AnswersBy, text_of};
 ghost use Rattle.cli_base.specs.Arguments.{texts_of};
-ghost use Rattle.cli_base.specs.code.Answers.{text_of};
 ghost use Rattle.ncdump.specs.CommandLine.{ncdump, asked_by, asked_in, names_in, width_in, width_said};
 ghost use Rattle.ncdump.specs.code.Options.{asked_for};
 

@@ -169,7 +169,7 @@ impl fmt::Display for DumpFault {
     ghost output = { λ fault. Some (fault_text fault) };
 
     /// Writes the message that [`fault_line`] has for the fault. Errs if `f` does.
-    #[tactic(auto, unfolding(nc_base::specs::Bytes::concat_parts, crate::specs::Faults::fault_text))]
+    #[tactic(auto, unfolding(nc_types::specs::Bytes::concat_parts, crate::specs::Faults::fault_text))]
     fn fmt<W: fmt::Write>(&self, f: &mut fmt::Formatter<W>) -> fmt::Result {
         match self {
             DumpFault::OutOfMemory => f.write_str(OUT_OF_MEMORY),

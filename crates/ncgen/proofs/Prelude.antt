@@ -15,7 +15,8 @@ unfoldable pub use Rattle.nc_base.specs.GeneratedFile.{data_of, file_of, fill_by
 pub use Rattle.nc_base.specs.Grammar.{header_spelling}
 pub use Rattle.nc_base.specs.Headers.{IsSound, bare_var}
 pub use Rattle.nc_base.specs.code.OwedValues.{AreListed, whole_arrays}
-pub use Rattle.nc_base.specs.declared.{header.Header.Header, version.Version.Version}
+pub use Rattle.nc_base.specs.declared.{header.Header.Header}
+pub use Rattle.nc_types.specs.declared.{version.Version.Version}
 pub use Rattle.nc_walk.specs.code.RecordSlabs.{record_slabs}
 pub use Rattle.ncgen.specs.code.Options.{asked_for}
 unfoldable pub use Rattle.ncgen.specs.CommandLine.{asked_by, asked_in, ncgen}

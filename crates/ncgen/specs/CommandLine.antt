@@ -1,12 +1,12 @@
 -- Definition. What the words of the command line ask for.
 use Rattle.std.specs.Prelude.{Bool, true, ◌&&◌, ◌||◌, List, [], ◌∷◌, ◌++◌, codes, Option, Some, None, option_map, is_none, fold, if◌then◌else◌}
 use Rattle.std.specs.Str.{bytes_eq}
-use Rattle.nc_base.specs.Bytes.{Bytes}
+use Rattle.nc_types.specs.Bytes.{Bytes}
 use Rattle.clap.specs.Words.{App, Row, fault_of, first_of, matches_of, new_app, new_rule, with_rule}
 use Rattle.cli_base.specs.Arguments.{flag, is_given, option, quiet, if_faultless}
 use Rattle.nc_base.specs.Paths.{stem_of}
-use Rattle.nc_base.specs.declared.version.Version.{Version}
-use Rattle.nc_base.specs.declared.version.Version.TheVariants.{Cdf1, Cdf2, Cdf5}
+use Rattle.nc_types.specs.declared.version.Version.{Version}
+use Rattle.nc_types.specs.declared.version.Version.TheVariants.{Cdf1, Cdf2, Cdf5}
 
 -- `ncgen [-b] [-o file] [-k kind] [file]`
 unfoldable pub ncgen : App

@@ -1,7 +1,7 @@
 -- Definition. The faults of a run, and the lines that tell them.
 use Rattle.std.specs.Global.{Global}
 use Rattle.std.specs.Prelude.{[], ◌∷◌, Option, Some, None, String, codes, string_bytes}
-use Rattle.nc_base.specs.Bytes.{Bytes, concat_parts}
+use Rattle.nc_types.specs.Bytes.{Bytes, concat_parts}
 use Rattle.cdl_statements.specs.FaultWords.{cdl_fault_text}
 use Rattle.cli_base.specs.declared.fault.OptFault.{OptFault}
 use Rattle.cli_base.specs.declared.fault.OptFault.TheVariants as opt

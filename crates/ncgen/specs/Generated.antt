@@ -1,7 +1,8 @@
 -- Definition. What is generated from a CDL text: a file, or a fault.
 use Rattle.std.specs.Prelude.{if◌then◌else◌, Result, Ok, Err}
-use Rattle.nc_base.specs.Bytes.{Bytes}
-use Rattle.nc_base.specs.declared.{dataset.Dataset.Dataset, version.Version.Version}
+use Rattle.nc_types.specs.Bytes.{Bytes}
+use Rattle.nc_base.specs.declared.{dataset.Dataset.Dataset}
+use Rattle.nc_types.specs.declared.{version.Version.Version}
 use Rattle.nc_base.specs.GeneratedFile.{file_of, fits}
 use Rattle.cdl_statements.specs.declared.fault.CdlFault.{CdlFault}
 use Rattle.cdl_statements.specs.Meaning.{meaning}

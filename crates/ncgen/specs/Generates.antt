@@ -1,6 +1,6 @@
 -- Definition. What a call of `generate` has done. Which bytes a sink has taken is known only if it is transparent.
 use Rattle.std.specs.Prelude.{◌≡◌, ◌⊎◌, Result, Ok, Err}
-use Rattle.nc_base.specs.Bytes.{Bytes}
+use Rattle.nc_types.specs.Bytes.{Bytes}
 use Rattle.devices.specs.Sinks.{SinkView, Appended, FailedPartway}
 use Rattle.cdl_statements.specs.Bounds.{out_of_memory}
 use Rattle.ncgen.specs.declared.fault.GenFault.{GenFault, TheVariants.Cdl, TheVariants.WriteFailed}

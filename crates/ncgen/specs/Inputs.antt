@@ -2,8 +2,8 @@
 use Rattle.std.specs.Prelude.{◌≡◌, ℕ, ◌<◌, ◌≤◌, Bool, length, Option, Some, None, IsSome, IsSomeAnd, Result, Ok, Err}
 use Rattle.std.specs.Bool.{OnTrue}
 use Rattle.std.specs.Global.{Vec}
-use Rattle.nc_base.specs.Bytes.{Bytes}
-use Rattle.nc_base.specs.declared.version.Version.{Version}
+use Rattle.nc_types.specs.Bytes.{Bytes}
+use Rattle.nc_types.specs.declared.version.Version.{Version}
 use Rattle.devices.specs.Failures.{HasFailed, one_more}
 use Rattle.devices.specs.Openers.{OpenerView, OpenerUse}
 use Rattle.devices.specs.Readers.{ReaderView}

@@ -1,7 +1,7 @@
 -- Definition. What writing a file to an output has done.
 use Rattle.std.specs.Prelude.{◌≡◌, ◌+◌, ◌⊎◌, Bool, List, [], Option, Some, None}
 use Rattle.std.specs.Bool.{OnTrue}
-use Rattle.nc_base.specs.Bytes.{Bytes}
+use Rattle.nc_types.specs.Bytes.{Bytes}
 use Rattle.devices.specs.Failures.{HasFailed}
 use Rattle.devices.specs.Creators.{CreatorView, Output, Unmade, give}
 use Rattle.devices.specs.Sinks.{IsPrefix}

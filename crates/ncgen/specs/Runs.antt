@@ -1,6 +1,6 @@
 -- Definition. What a run of the program has done.
 use Rattle.std.specs.Prelude.{ℕ, ◌≡◌, ◌⊎◌, false, Option, Some, None, option_map, string_bytes}
-use Rattle.nc_base.specs.Bytes.{Bytes}
+use Rattle.nc_types.specs.Bytes.{Bytes}
 use Rattle.devices.specs.Creators.{CreatorView}
 use Rattle.devices.specs.Openers.{OpenerView}
 use Rattle.devices.specs.Readers.{ReaderView}

@@ -1,9 +1,8 @@
 //! The words of the command line.
 
 ghost use Rattle.std.specs.Prelude.{◌≡◌, ◌++◌, IfOk, codes, option_map, string_bytes};
-ghost use Rattle.cli_base.specs.code.Answers.{AnswersBy};
+ghost use Rattle.cli_base.specs.code.Answers.{AnswersBy, text_of};
 ghost use Rattle.cli_base.specs.Arguments.{texts_of};
-ghost use Rattle.cli_base.specs.code.Answers.{text_of};
 ghost use Rattle.clap.specs.Words.{app_of, found_of, rows_of};
 ghost use Rattle.nc_base.specs.Paths.{stem_of};
 ghost use Rattle.ncgen.specs.CommandLine.{asked_by, asked_in, ncgen, version_in, version_of};

@@ -1,7 +1,8 @@
 -- Law. What holds of the file of a text.
 use Rattle.std.specs.Prelude.{◌≡◌, ◌↔◌, Ok}
-use Rattle.nc_base.specs.Bytes.{Bytes, AreBytes}
-use Rattle.nc_base.specs.declared.{dataset.Dataset.Dataset, version.Version.Version}
+use Rattle.nc_types.specs.Bytes.{Bytes, AreBytes}
+use Rattle.nc_base.specs.declared.{dataset.Dataset.Dataset}
+use Rattle.nc_types.specs.declared.{version.Version.Version}
 use Rattle.nc_base.specs.Dump.{Ending, IsDump, Options, whole}
 use Rattle.nc_base.specs.Datasets.{IsText}
 use Rattle.nc_base.specs.GeneratedFile.{file_of}

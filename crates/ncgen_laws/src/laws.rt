@@ -8,7 +8,7 @@
 
 ghost use Rattle.std.specs.Prelude.{ℕ, List};
 ghost use Rattle.nc_base.specs.FileLaws.{FilesAreDumpedAsTheirText, FilesHoldOneDataset, FilesHoldTheirDatasets, GeneratedFilesAreDumped};
-ghost use Rattle.nc_base.specs.declared.version.Version.{Version};
+ghost use Rattle.nc_types.specs.declared.version.Version.{Version};
 ghost use Rattle.nc_file.specs.OneOutcome.{HasOneOutcome};
 ghost use Rattle.cdl_laws.specs.PieceLaws.{AttributesReadBack, DataReadsBack, DeclarationsReadBack, DimensionsReadBack, GlobalAttributesReadBack, MarksReadBack, PiecesAreStatements};
 ghost use Rattle.cdl_laws.specs.RoundTrip.{TextReadsBack};

@@ -2,7 +2,7 @@
 
 ghost use Rattle.std.specs.Prelude.{◌<◌, All};
 ghost use Rattle.nc_base.specs.Headers.{IsSound};
-ghost use Rattle.nc_base.specs.Versions.{offset_limit};
+ghost use Rattle.nc_types.specs.Versions.{offset_limit};
 
 use crate::header_rows::{EMPTY, HeaderRow, NamedShape, header_of};
 use devices::SliceSink;

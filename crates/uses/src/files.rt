@@ -8,7 +8,6 @@ use cdl_print::{ValuePrinter, put_head};
 use devices::{FileSource, Flush, IoSink, Sink, Source, WriteFailed, put, put_decimal};
 use nc_base::{Dim, Header, NumRecs, Sequence, Version, record_layout};
 use nc_file::{read_header, with_begins, write_header};
-use nc_variable::open_variable;
 use nc_walk::{Walk, WalkFault};
 use std::alloc::{AllocError, Global};
 use std::fs::File;
@@ -75,23 +74,6 @@ pub fn longest_chunk<S: Source>(
         longest = longest.max(chunk.len());
     }
     Ok(longest)
-}
-
-/// The example of `nc_variable`. Returns how many bytes the values of the variable `temperature` have. Errs if the header has a wrong field
-/// or no such variable, if a value isn't whole in the file, or if the source or an allocation fails.
-pub fn bytes_of_temperature<S: Source>(alloc: Global, source: &mut S) -> Result<u128> {
-    let mut buf = [0; 4096];
-    let variable = open_variable(alloc, source, &mut buf, b"temperature")?;
-    let mut walk = variable.walk(source.len(), &mut buf);
-    let mut len: u128 = 0;
-    for _ in 0..u64::MAX {
-        // whole values, big-endian, one after the other
-        match walk.next(source)? {
-            Some(chunk) => len = len.saturating_add(chunk.len() as u128),
-            None => break,
-        }
-    }
-    Ok(len)
 }
 
 /// The example of `cdl_print`. Writes the head of a dump with the name `a` over `records` records, and the text of the variable at

@@ -3,7 +3,6 @@
 #![tactic(auto)]
 
 pub mod files;
-pub mod numbers;
 pub mod programs;
 pub mod surface;
 pub mod texts;

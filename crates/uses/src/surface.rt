@@ -6,7 +6,7 @@
 
 ghost use Rattle.std.specs.Prelude.{◌≡◌, ◌≤◌, ◌<◌, ◌+◌, ◌^◌, All, length};
 ghost use Rattle.nc_base.specs.Headers.{IsSound};
-ghost use Rattle.nc_base.specs.Versions.{offset_limit};
+ghost use Rattle.nc_types.specs.Versions.{offset_limit};
 ghost use Rattle.nc_walk.specs.code.RecordSlabs.{record_slabs};
 ghost use Rattle.nc_walk.specs.code.DataPart.{AreListedOf};
 

@@ -2,7 +2,8 @@
 use Rattle.std.specs.Prelude.{ℕ, Bool, List, [], ◌∷◌, ◌++◌, map, if◌then◌else◌, Result, Ok}
 use Rattle.std.specs.List.{list_any}
 use Rattle.std.specs.Str.{bytes_eq}
-use Rattle.nc_base.specs.declared.{header.Att.Att, nc_type.NcType.NcType}
+use Rattle.nc_base.specs.declared.{header.Att.Att}
+use Rattle.nc_types.specs.declared.{nc_type.NcType.NcType}
 use Rattle.cdl_statements.specs.declared.{fault.CdlKind.CdlKind, fault.CdlKind.TheVariants.DuplicateName}
 use Rattle.cdl_statements.specs.State.{when, ◌>>=◌}
 

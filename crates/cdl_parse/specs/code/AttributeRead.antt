@@ -1,6 +1,7 @@
 -- For contracts. What a statement says of an attribute, and what the calls that read it answer, but for want of memory.
 use Rattle.std.specs.Prelude.{List, drop, Result}
-use Rattle.nc_base.specs.declared.{header.Att.Att, version.Version.Version}
+use Rattle.nc_base.specs.declared.{header.Att.Att}
+use Rattle.nc_types.specs.declared.{version.Version.Version}
 use Rattle.cdl_statements.specs.code.Contents.{values}
 use Rattle.cdl_statements.specs.code.Cutters.{version_of, words}
 use Rattle.cdl_statements.specs.declared.{cutter.Cutter.Cutter, fault.CdlKind.CdlKind}

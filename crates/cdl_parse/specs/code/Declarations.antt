@@ -2,11 +2,12 @@
 use Rattle.std.specs.Prelude.{ℕ, ◌≡◌, Bool, List, [], ◌∷◌, ◌++◌, length, drop, true, false, ◌&&◌, ◌||◌, not, nat_lt, find, Option, Result, Ok, Err}
 use Rattle.std.specs.List.{position}
 use Rattle.std.specs.Str.{bytes_eq}
-use Rattle.nc_base.specs.Names.{is_name}
+use Rattle.nc_types.specs.Names.{is_name}
 use Rattle.nc_base.specs.Sizes.{is_record_dim}
-use Rattle.nc_base.specs.Types.{type_word}
-use Rattle.nc_base.specs.Versions.{has_type}
-use Rattle.nc_base.specs.declared.{header.Dim.Dim, nc_type.NcType.NcType, version.Version.Version}
+use Rattle.nc_types.specs.Types.{type_word}
+use Rattle.nc_types.specs.Versions.{has_type}
+use Rattle.nc_base.specs.declared.{header.Dim.Dim}
+use Rattle.nc_types.specs.declared.{nc_type.NcType.NcType, version.Version.Version}
 use Rattle.cdl_statements.specs.code.Contents.{Declaration, declaration_said, with_name}
 use Rattle.cdl_statements.specs.code.Cutters.{version_of, words}
 use Rattle.cdl_statements.specs.declared.{cutter.Cutter.Cutter, fault.CdlKind.CdlKind}

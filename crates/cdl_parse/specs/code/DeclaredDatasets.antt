@@ -1,6 +1,7 @@
 -- For contracts. What a text declares, as a dataset: each variable's listed values, and the fill value where it has none.
 use Rattle.std.specs.Prelude.{ℕ, ◌≡◌, if◌then◌else◌, List, Option, None, Some, Result, Ok, Err}
-use Rattle.nc_base.specs.declared.{dataset.Dataset.Dataset, header.Att.Att, header.Dim.Dim, header.Header.Header, header.Var.Var, version.Version.Version}
+use Rattle.nc_base.specs.declared.{dataset.Dataset.Dataset, header.Att.Att, header.Dim.Dim, header.Header.Header, header.Var.Var}
+use Rattle.nc_types.specs.declared.{version.Version.Version}
 use Rattle.nc_base.specs.GeneratedFile.{known_records}
 use Rattle.nc_base.specs.code.OwedValues.{whole_arrays}
 use Rattle.cdl_statements.specs.declared.{fault.CdlFault.CdlFault, fault.CdlKind.TheVariants.TooLarge}

@@ -1,8 +1,9 @@
 -- For contracts. The length of a dimension, by a number as it is held.
 use Rattle.std.specs.Prelude.{ℕ, ℤ, ◌≡◌, Bool, ◌||◌, ◌==◌, nat_le, if◌then◌else◌, List, Option, None, Some, Result, Ok, Err}
 use Rattle.nc_base.specs.Sizes.{has_record_dim}
-use Rattle.nc_base.specs.Versions.{count_limit}
-use Rattle.nc_base.specs.declared.{header.Dim.Dim, version.Version.Version}
+use Rattle.nc_types.specs.Versions.{count_limit}
+use Rattle.nc_base.specs.declared.{header.Dim.Dim}
+use Rattle.nc_types.specs.declared.{version.Version.Version}
 use Rattle.cdl_statements.specs.declared.fault.CdlKind.{CdlKind}
 use Rattle.cdl_statements.specs.declared.fault.CdlKind.TheVariants.{ZeroDimension, NumberRange}
 use Rattle.cdl_tokens.specs.Numerals.{Parts, number}

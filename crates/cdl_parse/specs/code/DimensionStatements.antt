@@ -1,6 +1,7 @@
 -- For contracts. What a statement of dimensions makes of the dimensions.
 use Rattle.std.specs.Prelude.{◌≡◌, List, [], ◌∷◌, if◌then◌else◌, Result}
-use Rattle.nc_base.specs.declared.{header.Dim.Dim, version.Version.Version}
+use Rattle.nc_base.specs.declared.{header.Dim.Dim}
+use Rattle.nc_types.specs.declared.{version.Version.Version}
 use Rattle.cdl_statements.specs.code.Contents.{dimension_said, dimensions_said}
 use Rattle.cdl_statements.specs.code.Cutters.{version_of, words}
 use Rattle.cdl_statements.specs.code.Views.{lexeme_of}

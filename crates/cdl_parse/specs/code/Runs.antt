@@ -1,6 +1,6 @@
 -- For contracts. What the calls that read several statements answer, but for want of memory.
 use Rattle.std.specs.Prelude.{◌≡◌, ℕ, List, Result, Ok, Err}
-use Rattle.nc_base.specs.declared.version.Version.{Version}
+use Rattle.nc_types.specs.declared.version.Version.{Version}
 use Rattle.cdl_statements.specs.code.Cutters.{pieces_left, text_of, version_of}
 use Rattle.cdl_statements.specs.declared.{cutter.Cutter.Cutter, fault.CdlFault.CdlFault, fault.CdlKind.CdlKind}
 use Rattle.cdl_tokens.specs.declared.token.Token.{Token}

@@ -2,7 +2,7 @@
 use Rattle.std.specs.Prelude.{ℕ, ◌≡◌, ◌+◌, ◌-◌, ◌*◌, ◌==◌, ℤ, nat_lt, if◌then◌else◌, IfSome, List, [], ◌++◌, length, codes, slice_get}
 use Rattle.nc_base.specs.Sizes.{value_count}
 use Rattle.nc_base.specs.Numbers.{numbers}
-use Rattle.nc_base.specs.Types.{size_of}
+use Rattle.nc_types.specs.Types.{size_of}
 use Rattle.nc_base.specs.ValueText.{Look, char_lead, column, look_of}
 use Rattle.nc_base.specs.declared.{header.Header.Header, header.Var.Var}
 use Rattle.cdl_print.specs.declared.{lead.Lead.Lead, layout.TextLayout.TextLayout, progress.Progress.Progress}

@@ -3,11 +3,12 @@ use Rattle.std.specs.Prelude.{ℕ, suc, ◌==◌, ◌||◌, Bool, if◌then◌el
 use Rattle.std.specs.Char.{is_ascii_control}
 use Rattle.std.specs.Fmt.{signed_decimal}
 use Rattle.std.specs.Str.{byte}
-use Rattle.nc_base.specs.Bytes.{concat_parts}
-use Rattle.nc_base.specs.Escapes.{begins_with_digit_or_mark, is_reserved, escaped_name, escaped_text}
+use Rattle.nc_types.specs.Bytes.{concat_parts}
+use Rattle.nc_types.specs.Escapes.{begins_with_digit_or_mark, is_reserved, escaped_name, escaped_text}
 use Rattle.nc_base.specs.HeadText.{att_lines, dim_lines, dim_name, dimensions_word, global_word, joined, string_break, var_lines, variables_word}
-use Rattle.nc_base.specs.Types.{number_suffix, type_word}
-use Rattle.nc_base.specs.declared.{header.Att.Att, header.Dim.Dim, header.Var.Var, nc_type.NcType.NcType}
+use Rattle.nc_types.specs.Types.{number_suffix, type_word}
+use Rattle.nc_base.specs.declared.{header.Att.Att, header.Dim.Dim, header.Var.Var}
+use Rattle.nc_types.specs.declared.{nc_type.NcType.NcType}
 use Rattle.nc_base.specs.Numbers.{number_of}
 
 -- the backslash before a name that begins with a digit or one of `. @ + -`, or is a reserved word

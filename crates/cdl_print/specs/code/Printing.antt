@@ -1,6 +1,6 @@
 -- For contracts. What a call that prints values has done.
 use Rattle.std.specs.Prelude.{ℕ, ◌≡◌, ◌+◌, ◌-◌, ◌%◌, ◌<◌, ◌≤◌, ◌==◌, ℤ, true, false, if◌then◌else◌, List, [], ◌∷◌, ◌++◌, length, take, replicate, Some, Result, Ok, Err}
-use Rattle.nc_base.specs.Escapes.{escaped_text}
+use Rattle.nc_types.specs.Escapes.{escaped_text}
 use Rattle.nc_base.specs.HeadText.{without_trailing_nuls}
 use Rattle.nc_base.specs.Numbers.{number_of}
 use Rattle.nc_base.specs.ValueText.{Look, is_char, column, number_text, variable_prefix}

@@ -1,6 +1,6 @@
 -- For contracts. What the tokens of a statement of the right shape say.
 use Rattle.std.specs.Prelude.{ℕ, ℤ, Bool, true, false, List, [], ◌∷◌, ◌&&◌, ◌||◌, not, codes, drop, if◌then◌else◌, Option, None, Some}
-use Rattle.nc_base.specs.declared.{nc_type.NcType.TheVariants.Int, version.Version.Version}
+use Rattle.nc_types.specs.declared.{nc_type.NcType.TheVariants.Int, version.Version.Version}
 use Rattle.cdl_statements.specs.code.DueTokens.{is_name, opens_section_after}
 use Rattle.cdl_tokens.specs.Escapes.{inner, string_value, word_value}
 use Rattle.cdl_statements.specs.Lexemes.{Lexeme, is_mark, is_mark_kind, is_word}

@@ -5,7 +5,7 @@ use Rattle.cdl_tokens.specs.code.Scanners.{followed, left}
 use Rattle.cdl_tokens.specs.code.Scanners as scanners
 use Rattle.cdl_statements.specs.Pieces.{pieces_after, role_in, with_first}
 use Rattle.cdl_tokens.specs.declared.token.Token.{Token}
-use Rattle.nc_base.specs.declared.version.Version.{Version}
+use Rattle.nc_types.specs.declared.version.Version.{Version}
 use Rattle.cdl_statements.specs.declared.{cutter.Cutter.Cutter, piece.Role.Role, piece.Role.TheVariants.End}
 
 abbrev pub is_end_role : Role → Bool

@@ -1,6 +1,6 @@
 -- For contracts. Which token of a statement is due, token by token.
 use Rattle.std.specs.Prelude.{Bool, true, false, List, [], ◌∷◌, ◌&&◌, ◌||◌, if◌then◌else◌, not, codes, nat_lt, Option, None, Some}
-use Rattle.nc_base.specs.Escapes.{is_reserved}
+use Rattle.nc_types.specs.Escapes.{is_reserved}
 use Rattle.cdl_statements.specs.Lexemes.{Lexeme, is_mark, is_word, is_word_kind, is_opening_kind}
 use Rattle.cdl_statements.specs.Pieces.{section_of}
 use Rattle.cdl_statements.specs.Shapes.{section_number}

@@ -1,7 +1,7 @@
 -- For contracts. Numbers as the code holds them, and how far it has read decimal digits.
 use Rattle.std.specs.Prelude.{◌≡◌, ℕ, ◌+◌, ◌≤◌, Bool, List, nat_lt, drop, length, if◌then◌else◌, Option, None, Some}
 use Rattle.std.specs.List.{prefix_len, take_while}
-use Rattle.nc_base.specs.declared.version.Version.{Version}
+use Rattle.nc_types.specs.declared.version.Version.{Version}
 use Rattle.cdl_tokens.specs.Bytes.{is_digit, number_in}
 use Rattle.cdl_tokens.specs.Numerals.{Parts, in_base}
 use Rattle.cdl_tokens.specs.declared.numeral.Numeral.{Numeral}

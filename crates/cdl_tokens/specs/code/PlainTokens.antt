@@ -4,7 +4,7 @@ use Rattle.std.specs.Prelude.{◌≡◌, ◌==◌, ◌||◌, codes, count_by, �
 use Rattle.std.specs.Char.{to_ascii_lowercase}
 use Rattle.std.specs.List.{prefix_len}
 use Rattle.std.specs.Str.{byte}
-use Rattle.nc_base.specs.declared.{nc_type.NcType.NcType, version.Version.Version}
+use Rattle.nc_types.specs.declared.{nc_type.NcType.NcType, version.Version.Version}
 use Rattle.cdl_tokens.specs.Bytes.{goes_on_number, is_blank, is_digit}
 use Rattle.cdl_tokens.specs.Escapes.{inner, string_value}
 use Rattle.cdl_tokens.specs.code.Magnitudes.{ReadsDigits, held}

@@ -1,7 +1,8 @@
 -- For contracts. What a variable takes, beside what its values are checked against.
 use Rattle.std.specs.Prelude.{ℕ, ◌≡◌, ◌<◌, ◌-◌, ◌^◌, ℤ, pos, min, true, false, List, length, map, take, Result, Ok, Err}
 use Rattle.std.specs.List.{flat_map}
-use Rattle.nc_base.specs.declared.{header.Dim.Dim, header.Var.Var, nc_type.NcType.NcType, nc_type.NcType.TheVariants.Char}
+use Rattle.nc_base.specs.declared.{header.Dim.Dim, header.Var.Var}
+use Rattle.nc_types.specs.declared.{nc_type.NcType.NcType, nc_type.NcType.TheVariants.Char}
 use Rattle.nc_base.specs.Numbers.{bytes_of_number}
 use Rattle.nc_base.specs.Sizes.{dim_len, is_record_var, product, slab_count}
 use Rattle.cdl_statements.specs.declared.fault.CdlKind.{CdlKind}

@@ -1,7 +1,7 @@
 -- For contracts. What a statement of the data section means.
 use Rattle.std.specs.Prelude.{ℕ, List, [], ◌∷◌, if◌then◌else◌, drop, Option, None, Some, Result, Ok, Err, slice_get}
-use Rattle.nc_base.specs.declared.version.Version.{Version}
-use Rattle.nc_base.specs.Names.{is_name}
+use Rattle.nc_types.specs.declared.version.Version.{Version}
+use Rattle.nc_types.specs.Names.{is_name}
 use Rattle.cdl_tokens.specs.Escapes.{word_value}
 use Rattle.cdl_statements.specs.code.Cutters.{version_of, words}
 use Rattle.cdl_statements.specs.declared.{cutter.Cutter.Cutter, due.Due.TheVariants.DataName, fault.CdlKind.CdlKind}

@@ -1,5 +1,5 @@
 -- For contracts. What `Display` writes of the reason why a statement isn't read.
-use Rattle.nc_base.specs.Bytes.{Bytes}
+use Rattle.nc_types.specs.Bytes.{Bytes}
 use Rattle.cdl_statements.specs.declared.fault.CdlKind.TheVariants as kind
 use Rattle.cdl_statements.specs.FaultWords.{kind_words}
 use Rattle.cdl_values.specs.declared.read_error.ReadError.{ReadError}

@@ -3,7 +3,8 @@ use Rattle.std.specs.Prelude.{ℕ, ℤ, ◌≡◌, ◌<◌, ◌^◌, length, Boo
 use Rattle.std.specs.List.{flat_map}
 use Rattle.std.specs.Str.{bytes_eq}
 use Rattle.nc_base.specs.Numbers.{bytes_of_number}
-use Rattle.nc_base.specs.declared.{header.Dim.Dim, header.Var.Var, version.Version.Version}
+use Rattle.nc_base.specs.declared.{header.Dim.Dim, header.Var.Var}
+use Rattle.nc_types.specs.declared.{version.Version.Version}
 use Rattle.cdl_tokens.specs.Escapes.{word_value}
 use Rattle.cdl_statements.specs.code.Cutters.{text_of, version_of, words}
 use Rattle.cdl_statements.specs.declared.{cutter.Cutter.Cutter, section.Section.TheVariants.Values, fault.CdlKind.CdlKind}

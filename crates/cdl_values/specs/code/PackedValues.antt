@@ -1,7 +1,7 @@
 -- For contracts. The values of a statement of the data section, and the bytes that they are.
 use Rattle.std.specs.Prelude.{ℕ, ℤ, pos, Bool, false, List, [], ◌∷◌, ◌++◌, ◌-◌, ◌^◌, ◌==◌, nat_le, nat_lt, replicate, if◌then◌else◌, map, length, Option, None, Some, Result, Ok, Err}
-use Rattle.nc_base.specs.declared.nc_type.NcType.{NcType}
-use Rattle.nc_base.specs.declared.nc_type.NcType.TheVariants.{Byte, Char, Short, Int, Ubyte, Ushort, Uint, Int64, Uint64}
+use Rattle.nc_types.specs.declared.nc_type.NcType.{NcType}
+use Rattle.nc_types.specs.declared.nc_type.NcType.TheVariants.{Byte, Char, Short, Int, Ubyte, Ushort, Uint, Int64, Uint64}
 use Rattle.nc_base.specs.Numbers.{bytes_of_number}
 use Rattle.std.specs.List.{flat_map}
 use Rattle.cdl_tokens.specs.Numerals.{signed}

@@ -1,6 +1,6 @@
 -- For contracts. The values of tokens, packed one after the other.
 use Rattle.std.specs.Prelude.{ℕ, ◌≡◌, ◌≤◌, Bool, false, List, [], ◌∷◌, Result, Ok, ⊤, OnOk, IfOk}
-use Rattle.nc_base.specs.declared.{nc_type.NcType.NcType, version.Version.Version}
+use Rattle.nc_types.specs.declared.{nc_type.NcType.NcType, version.Version.Version}
 use Rattle.cdl_tokens.specs.Escapes.{inner, string_value}
 use Rattle.cdl_tokens.specs.code.Magnitudes.{held}
 use Rattle.cdl_tokens.specs.Numerals.{Parts, number}

@@ -1,7 +1,7 @@
 -- For contracts. Names and fields that are borrowed, and what is known of the fields that were passed.
 use Rattle.std.specs.Borrow.{Bor}
 use Rattle.std.specs.Prelude.{ℕ, ◌≡◌, ◌≤◌, List, length, take, Option, option_map}
-use Rattle.nc_fields.specs.declared.entry.Entry.{Entry}
+use Rattle.nc_findings.specs.declared.entry.Entry.{Entry}
 use Rattle.check_lines.specs.Paths.{KnownNames, names_after}
 use Rattle.check_lines.specs.declared.{known_names.Names.Names, passed.Passed.Passed}
 

@@ -1,6 +1,6 @@
 -- For contracts. What `Display` writes of a fault.
 use Rattle.std.specs.Prelude.{codes}
-use Rattle.nc_base.specs.Bytes.{Bytes}
+use Rattle.nc_types.specs.Bytes.{Bytes}
 use Rattle.cli_base.specs.declared.fault.OptFault.{OptFault}
 use Rattle.cli_base.specs.declared.fault.OptFault.TheVariants.{OutOfMemory, Usage}
 

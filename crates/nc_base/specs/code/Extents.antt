@@ -2,7 +2,7 @@
 use Rattle.std.specs.Prelude.{ℕ, ◌+◌, Option, Some, None}
 use Rattle.std.specs.List.{last_or}
 use Rattle.nc_base.specs.declared.{header.Var.Var, header.Header.Header}
-use Rattle.nc_base.specs.Types.{size_of}
+use Rattle.nc_types.specs.Types.{size_of}
 use Rattle.nc_base.specs.Places.{value_offsets}
 
 -- the first offset after the last value of this size, or this begin if there is no value

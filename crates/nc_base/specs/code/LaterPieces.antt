@@ -2,8 +2,8 @@
 -- has the text of the held NULs and its own: of a, NUL, NUL, b, NUL the pieces are `a`, nothing, nothing, `\000\000b` and nothing.
 use Rattle.std.specs.Prelude.{ℕ, ℤ, ◌-◌, ◌%◌, ◌==◌, ◌&&◌, unsigned_abs, Bool, if◌then◌else◌, List, [], ◌∷◌, ◌++◌, length, drop, replicate}
 use Rattle.std.specs.List.{suffix_len}
-use Rattle.nc_base.specs.Bytes.{Bytes}
-use Rattle.nc_base.specs.Escapes.{escaped_text}
+use Rattle.nc_types.specs.Bytes.{Bytes}
+use Rattle.nc_types.specs.Escapes.{escaped_text}
 use Rattle.nc_base.specs.ValueText.{Look, is_char, begins_row, number_piece, char_lead, variable_prefix}
 
 abbrev pub is_nul : ℤ → Bool

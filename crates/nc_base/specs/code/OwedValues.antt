@@ -5,7 +5,7 @@ use Rattle.nc_base.specs.declared.{header.Dim.Dim, header.Var.Var}
 use Rattle.nc_base.specs.Fill.{fill_value}
 use Rattle.nc_base.specs.Sizes.{value_count}
 use Rattle.nc_base.specs.Numbers.{bytes_of_number}
-use Rattle.nc_base.specs.Types.{size_of}
+use Rattle.nc_types.specs.Types.{size_of}
 
 -- how many values these bytes lack of those that a variable has over n records
 abbrev pub owed_count : List Dim → ℕ → Var → List ℕ → ℕ

@@ -1,7 +1,7 @@
 -- For contracts. Reading a part of a header: its value and the rest, or the fault of the first wrong field, and where that lies.
 use Rattle.std.specs.Prelude.{ℕ, ◌≡◌, ◌+◌, ◌<◌, ◌⊎◌, nat_le, if◌then◌else◌, List, [], ◌∷◌, length, take, drop, Some, None, Result, Ok, Err}
 use Rattle.nc_base.specs.declared.fault.FormatFault.{FormatFault}
-use Rattle.nc_base.specs.Bytes.{Bytes}
+use Rattle.nc_types.specs.Bytes.{Bytes}
 use Rattle.nc_base.specs.Parts.{Step, Part, done, bytes, decoded, under, chain, Spells}
 
 -- a value and the rest, or the fault of the first wrong field and the rest after it

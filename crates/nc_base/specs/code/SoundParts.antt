@@ -1,9 +1,10 @@
 -- For contracts. What the parts of a sound header keep: words of the contracts of the functions that look at them.
 use Rattle.std.specs.Prelude.{ℕ, ◌<◌, ◌≤◌, List, [], length, All}
-use Rattle.nc_base.specs.declared.{header.Att.Att, header.Dim.Dim, header.Header.Header, header.Var.Var, nc_type.NcType.NcType, version.Version.Version}
+use Rattle.nc_base.specs.declared.{header.Att.Att, header.Dim.Dim, header.Header.Header, header.Var.Var}
+use Rattle.nc_types.specs.declared.{nc_type.NcType.NcType, version.Version.Version}
 use Rattle.nc_base.specs.Headers.{AreDimids, IsSoundAtt, IsSoundDim, IsSoundVar}
 use Rattle.nc_base.specs.Sizes.{record_limit, record_size, slab_limit, slab_len}
-use Rattle.nc_base.specs.Versions.{count_limit}
+use Rattle.nc_types.specs.Versions.{count_limit}
 
 -- the version can count the dimensions, and each is sound
 abbrev pub AreSoundDims : Version → List Dim → Type 0

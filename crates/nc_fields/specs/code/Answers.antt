@@ -1,10 +1,10 @@
 -- For contracts. What is answered for the outcome of reading a header.
 use Rattle.std.specs.Prelude.{ℕ, ◌≡◌, List, map, Result, Ok, Err, MatchResult}
 use Rattle.nc_base.specs.declared.{fault.FormatFault.FormatFault, header.Header.Header}
-use Rattle.nc_file.specs.declared.head_fault.HeadFault.{HeadFault}
-use Rattle.nc_file.specs.declared.head_fault.HeadFault.TheVariants as head
-use Rattle.nc_fields.specs.declared.{entry.Entry.Entry, header.Listing.Listing, list_fault.ListFault.ListFault}
-use Rattle.nc_fields.specs.declared.list_fault.ListFault.TheVariants.{OutOfMemory, ReadFailed}
+use Rattle.nc_window.specs.declared.head_fault.HeadFault.{HeadFault}
+use Rattle.nc_window.specs.declared.head_fault.HeadFault.TheVariants as head
+use Rattle.nc_findings.specs.declared.{listing.Listing.Listing, entry.Entry.Entry, list_fault.ListFault.ListFault}
+use Rattle.nc_findings.specs.declared.list_fault.ListFault.TheVariants.{OutOfMemory, ReadFailed}
 use Rattle.nc_fields.specs.Entries.{seen_by}
 use Rattle.nc_fields.specs.code.Checks.{with_fault}
 

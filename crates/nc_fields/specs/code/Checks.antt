@@ -1,16 +1,17 @@
 -- For contracts. What a reader of a part of a header does, which lists its fields.
 use Rattle.std.specs.Prelude.{◌≡◌, ◌⊎◌, ℕ, ◌++◌, List, [], ◌∷◌, length, map, take, Some, None, Result, Ok, Err}
 use Rattle.std.specs.Bool.{OnTrue}
-use Rattle.nc_base.specs.Bytes.{Bytes}
+use Rattle.nc_types.specs.Bytes.{Bytes}
 use Rattle.nc_base.specs.Parts.{Step, Part}
 use Rattle.devices.specs.declared.source.Source.{Ghosts}
-use Rattle.nc_file.specs.declared.{head_fault.HeadFault.HeadFault, window.Window.Window}
-use Rattle.nc_file.specs.declared.head_fault.HeadFault.TheVariants.{OutOfMemory, ReadFailed, Format}
+use Rattle.nc_window.specs.declared.{head_fault.HeadFault.HeadFault, window.Window.Window}
+use Rattle.nc_window.specs.declared.head_fault.HeadFault.TheVariants.{OutOfMemory, ReadFailed, Format}
 use Rattle.nc_base.specs.declared.fault.FormatFault.{FormatFault}
-use Rattle.nc_file.specs.code.Window.{Kept, FailsOnly, Reads, left, next_of, source_of}
-use Rattle.nc_fields.specs.declared.{entry.Entry.Entry, entry.Content.Content, place.Place.Place, fields.FieldReader.FieldReader, fields.PendingField.PendingField}
-use Rattle.nc_fields.specs.declared.entry.Content.TheVariants.{Cut, Number}
-use Rattle.nc_fields.specs.declared.entry.Content.TheVariants as content
+use Rattle.nc_window.specs.code.Window.{Kept, FailsOnly, Reads, left, next_of, source_of}
+use Rattle.nc_fields.specs.declared.{fields.FieldReader.FieldReader, fields.PendingField.PendingField}
+use Rattle.nc_findings.specs.declared.{entry.Entry.Entry, entry.Content.Content, place.Place.Place}
+use Rattle.nc_findings.specs.declared.entry.Content.TheVariants.{Cut, Number}
+use Rattle.nc_findings.specs.declared.entry.Content.TheVariants as content
 use Rattle.nc_fields.specs.Fields.{fields}
 use Rattle.nc_fields.specs.Entries.{Seen, seen, seen_by, number_in, steps_of, whole_content, cut_content}
 

@@ -1,11 +1,11 @@
 -- For contracts. What a function does that passes over the values of an attribute.
 use Rattle.std.specs.Prelude.{◌≡◌, ℕ, Bool, List, length, Result, Ok, Err, IfOk, OnOk}
-use Rattle.nc_base.specs.Bytes.{Bytes}
+use Rattle.nc_types.specs.Bytes.{Bytes}
 use Rattle.nc_base.specs.Parts.{Step, bytes}
 use Rattle.nc_base.specs.declared.fault.FormatFault.TheVariants.{HeaderTruncated}
 use Rattle.devices.specs.declared.source.Source.{Ghosts}
-use Rattle.nc_file.specs.code.Window.{Read}
-use Rattle.nc_file.specs.declared.{head_fault.HeadFault.HeadFault, window.Window.Window}
+use Rattle.nc_window.specs.code.Window.{Read}
+use Rattle.nc_window.specs.declared.{head_fault.HeadFault.HeadFault, window.Window.Window}
 use Rattle.nc_fields.specs.Entries.{ends_with_nul}
 use Rattle.nc_fields.specs.code.Checks.{Reader, Checked}
 

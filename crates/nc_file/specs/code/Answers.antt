@@ -5,12 +5,9 @@ use Rattle.nc_base.specs.declared.{fault.FormatFault.FormatFault, header.Header.
 use Rattle.nc_base.specs.Headers.{IsSound, HasValidNames}
 use Rattle.nc_base.specs.Grammar.{SpellsHeader, StopsAt}
 use Rattle.devices.specs.Sources.{SourceView}
-use Rattle.nc_file.specs.declared.head_fault.HeadFault.{HeadFault}
-use Rattle.nc_file.specs.declared.head_fault.HeadFault.TheVariants.{OutOfMemory, ReadFailed, Format}
-
--- no more was read in between than the bytes up to here, and one buffer
-abbrev pub ReadUpTo : ℕ → ℕ → ℕ → ℕ → Type 0
-ReadUpTo before after end buffer_len = after ≤ before + end + buffer_len
+use Rattle.nc_window.specs.code.Window.{ReadUpTo}
+use Rattle.nc_window.specs.declared.head_fault.HeadFault.{HeadFault}
+use Rattle.nc_window.specs.declared.head_fault.HeadFault.TheVariants.{OutOfMemory, ReadFailed, Format}
 
 -- at least n bytes were read in between
 abbrev pub ReadAtLeast : SourceView → SourceView → ℕ → Type 0

@@ -7,12 +7,14 @@ ghost use Rattle.nc_base.specs.code.Weight.{weight_of};
 ghost use Rattle.nc_file.specs.code.Answers.{AnswersIn, ReadAtLeast};
 ghost use Rattle.nc_base.specs.Parts.{bytes};
 ghost use Rattle.nc_base.specs.declared.fault.FormatFault.TheVariants.{NotNetcdf};
-ghost use Rattle.nc_file.specs.code.Window.{Caused, Read};
+ghost use Rattle.nc_window.specs.code.Window.{Caused, Read};
 
-use crate::head_fault::HeadFault;
-use crate::window::Window;
+use super::attribute::read_att_list;
+use super::dimension::read_dim_list;
+use super::variable::read_var_list;
 use devices::Source;
 use nc_base::{FormatFault, Header, NumRecs, Version};
+use nc_window::{HeadFault, Window};
 use std::alloc::Global;
 
 /// Reads the header at the start of a source, through a caller's buffer of at least 16 bytes, which may hold anything before and after.
@@ -66,80 +68,84 @@ fn read_unchecked_header<S: Source>(
     ensures spelled { IfOk result (λ h. ReadAtLeast (S.view source.old) (S.view source.new)
         (length (header_spelling h))) }
 {
-    Window::new(source, buf).header(alloc)
+    read_whole_header(&mut Window::new(source, buf), alloc)
 }
 
-impl<S: Source> Window<'_, S> {
-    /// Reads the three bytes that should be `CDF`, and returns them without checking them. Errs with `NotNetcdf` if fewer are left, and
-    /// with `ReadFailed` if the source fails.
-    #[tactic(auto, using(crate::proofs::PartRuns::cuts), unfolding(nc_base::specs::code::PartRuns::printed_len))]
-    fn magic_letters(&mut self) -> Result<[u8; 3], HeadFault>
-        ensures { Read self.old self.new (bytes 3 NotNetcdf) result }
-    {
-        match self.array() {
-            Err(HeadFault::Format(_)) => Err(HeadFault::Format(FormatFault::NotNetcdf)),
-            answer => answer,
-        }
+/// Reads the three bytes that should be `CDF`, and returns them without checking them. Errs with `NotNetcdf` if fewer are left, and
+/// with `ReadFailed` if the source fails.
+#[tactic(auto, using(crate::proofs::Elements::cuts), unfolding(nc_base::specs::code::PartRuns::printed_len))]
+fn read_magic_letters<S: Source>(window: &mut Window<'_, S>) -> Result<[u8; 3], HeadFault>
+    ensures { Read window.old window.new (bytes 3 NotNetcdf) result }
+{
+    match window.array() {
+        Err(HeadFault::Format(_)) => Err(HeadFault::Format(FormatFault::NotNetcdf)),
+        answer => answer,
     }
+}
 
-    /// Reads the version byte, and returns its version. Errs with `UnknownVersion` if the byte is none of 1, 2 and 5, with
-    /// `HeaderTruncated` if there is none, and with `ReadFailed` if the source fails.
-    #[tactic(auto, using(crate::proofs::PartRuns::part_runs), unfolding(nc_base::specs::Grammar::version_part, nc_base::specs::code::PartRuns::printed_len))]
-    fn version(&mut self) -> Result<Version, HeadFault>
-        ensures { Read self.old self.new version_part result }
-    {
-        let bytes: [u8; 1] = self.array()?;
-        Ok(Version::of_byte(bytes[0]).ok_or(FormatFault::UnknownVersion(bytes[0]))?)
-    }
+/// Reads the version byte, and returns its version. Errs with `UnknownVersion` if the byte is none of 1, 2 and 5, with
+/// `HeaderTruncated` if there is none, and with `ReadFailed` if the source fails.
+#[tactic(auto, using(nc_window::proofs::PartRuns::part_runs), unfolding(nc_base::specs::Grammar::version_part, nc_base::specs::code::PartRuns::printed_len))]
+fn read_version<S: Source>(window: &mut Window<'_, S>) -> Result<Version, HeadFault>
+    ensures { Read window.old window.new version_part result }
+{
+    let bytes: [u8; 1] = window.array()?;
+    Ok(Version::of_byte(bytes[0]).ok_or(FormatFault::UnknownVersion(bytes[0]))?)
+}
 
-    /// Reads `CDF` and the version byte, and returns the version. Errs with `NotNetcdf` if other bytes than `CDF` come, or too few, with
-    /// `UnknownVersion` if the version byte is none of 1, 2 and 5, with `HeaderTruncated` if it is missing, and with `ReadFailed` if the
-    /// source fails.
-    #[tactic(auto, using(crate::proofs::PartRuns::part_runs), unfolding(nc_base::specs::Grammar::magic_part, nc_base::specs::code::PartRuns::printed_len))]
-    fn magic(&mut self) -> Result<Version, HeadFault>
-        ensures { Read self.old self.new magic_part result }
-    {
-        let letters = self.magic_letters()?;
-        if letters[..] != b"CDF"[..] {
-            return Err(HeadFault::Format(FormatFault::NotNetcdf));
-        }
-        self.version()
+/// Reads `CDF` and the version byte, and returns the version. Errs with `NotNetcdf` if other bytes than `CDF` come, or too few, with
+/// `UnknownVersion` if the version byte is none of 1, 2 and 5, with `HeaderTruncated` if it is missing, and with `ReadFailed` if the
+/// source fails.
+#[tactic(auto, using(nc_window::proofs::PartRuns::part_runs), unfolding(nc_base::specs::Grammar::magic_part, nc_base::specs::code::PartRuns::printed_len))]
+fn read_magic<S: Source>(window: &mut Window<'_, S>) -> Result<Version, HeadFault>
+    ensures { Read window.old window.new magic_part result }
+{
+    let letters = read_magic_letters(window)?;
+    if letters[..] != b"CDF"[..] {
+        return Err(HeadFault::Format(FormatFault::NotNetcdf));
     }
+    read_version(window)
+}
 
-    /// Reads the number of records (eight bytes in CDF-5, otherwise four), and returns it, or `Streaming` if all of its bits are 1. Errs
-    /// with `BadCount` if its top bit is 1, but not all of its bits are, with `HeaderTruncated` if bytes are missing, and with `ReadFailed`
-    /// if the source fails.
-    #[tactic(auto, using(crate::proofs::PartRuns::part_runs), unfolding(nc_base::specs::Grammar::numrecs_part, nc_base::specs::code::PartRuns::printed_len))]
-    fn numrecs(&mut self, version: Version) -> Result<NumRecs, HeadFault>
-        ensures { Read self.old self.new (numrecs_part strict version) result }
-    {
-        let n = self.number(version)?;
-        if n == version.streaming_mark() {
-            return Ok(NumRecs::Streaming);
-        }
-        if version.count_limit() <= n {
-            return Err(HeadFault::Format(FormatFault::BadCount));
-        }
-        Ok(NumRecs::Known(n))
+/// Reads the number of records (eight bytes in CDF-5, otherwise four), and returns it, or `Streaming` if all of its bits are 1. Errs
+/// with `BadCount` if its top bit is 1, but not all of its bits are, with `HeaderTruncated` if bytes are missing, and with `ReadFailed`
+/// if the source fails.
+#[tactic(auto, using(nc_window::proofs::PartRuns::part_runs), unfolding(nc_base::specs::Grammar::numrecs_part, nc_base::specs::code::PartRuns::printed_len))]
+fn read_numrecs<S: Source>(
+    window: &mut Window<'_, S>,
+    version: Version,
+) -> Result<NumRecs, HeadFault>
+    ensures { Read window.old window.new (numrecs_part strict version) result }
+{
+    let n = window.number(version)?;
+    if n == version.streaming_mark() {
+        return Ok(NumRecs::Streaming);
     }
+    if version.count_limit() <= n {
+        return Err(HeadFault::Format(FormatFault::BadCount));
+    }
+    Ok(NumRecs::Known(n))
+}
 
-    /// Reads the whole header, and returns it. Errs with the fault of the first wrong field, with `ReadFailed` if the source fails, and
-    /// with `OutOfMemory` if an allocation fails.
-    #[tactic(auto, using(crate::proofs::PartRuns::part_runs), unfolding(nc_base::specs::Grammar::header_by, nc_base::specs::code::PartRuns::printed_len))]
-    fn header(&mut self, alloc: Global) -> Result<Header, HeadFault>
-        ensures { Read self.old self.new header_part result }
-    {
-        let version = self.magic()?;
-        let numrecs = self.numrecs(version)?;
-        let dims = self.dim_list(alloc, version)?;
-        let gatts = self.att_list(alloc, version)?;
-        let vars = self.var_list(alloc, version, dims.as_slice())?;
-        Ok(Header {
-            version,
-            numrecs,
-            dims,
-            gatts,
-            vars,
-        })
-    }
+/// Reads the whole header, and returns it. Errs with the fault of the first wrong field, with `ReadFailed` if the source fails, and
+/// with `OutOfMemory` if an allocation fails.
+#[tactic(auto, using(nc_window::proofs::PartRuns::part_runs), unfolding(nc_base::specs::Grammar::header_by, nc_base::specs::code::PartRuns::printed_len))]
+fn read_whole_header<S: Source>(
+    window: &mut Window<'_, S>,
+    alloc: Global,
+) -> Result<Header, HeadFault>
+    ensures { Read window.old window.new header_part result }
+{
+    let version = read_magic(window)?;
+    let numrecs = read_numrecs(window, version)?;
+    let dims = read_dim_list(window, alloc, version)?;
+    let gatts = read_att_list(window, alloc, version)?;
+    let vars = read_var_list(window, alloc, version, dims.as_slice())?;
+    Ok(Header {
+        version,
+        numrecs,
+        dims,
+        gatts,
+        vars,
+    })
 }

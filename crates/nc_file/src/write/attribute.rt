@@ -5,7 +5,7 @@ ghost use Rattle.std.specs.List.{flat_map};
 ghost use Rattle.nc_base.specs.Grammar.{att_list, att_part, strict};
 ghost use Rattle.nc_base.specs.Headers.{IsSoundAtt};
 ghost use Rattle.nc_base.specs.Parts.{print};
-ghost use Rattle.nc_base.specs.Versions.{count_limit};
+ghost use Rattle.nc_types.specs.Versions.{count_limit};
 ghost use Rattle.devices.specs.code.SinkWrites.{Wrote};
 
 use super::list::{put_list_head, put_name, put_padded};

@@ -4,7 +4,7 @@ ghost use Rattle.std.specs.Prelude.{◌≡◌, ◌<◌, All};
 ghost use Rattle.nc_base.specs.Grammar.{header_spelling, magic_part, numrecs_part, strict};
 ghost use Rattle.nc_base.specs.Headers.{IsSound, IsSoundNumRecs};
 ghost use Rattle.nc_base.specs.Parts.{print};
-ghost use Rattle.nc_base.specs.Versions.{offset_limit};
+ghost use Rattle.nc_types.specs.Versions.{offset_limit};
 ghost use Rattle.devices.specs.code.SinkWrites.{Wrote};
 
 use super::attribute::put_att_list;

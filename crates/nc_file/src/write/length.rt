@@ -2,9 +2,9 @@
 
 ghost use Rattle.std.specs.Prelude.{◌≡◌, ◌+◌, ◌-◌, ◌^◌, [], false, length, min};
 ghost use Rattle.std.specs.Int.{byte_len};
-ghost use Rattle.nc_base.specs.Bytes.{padding_len};
+ghost use Rattle.nc_types.specs.Bytes.{padding_len};
 ghost use Rattle.nc_base.specs.Grammar.{att_list, att_part, dim_list, dim_part, header_spelling, name_part, var_list, var_part, strict};
-ghost use Rattle.nc_base.specs.Versions.{count_width, offset_width};
+ghost use Rattle.nc_types.specs.Versions.{count_width, offset_width};
 ghost use Rattle.nc_base.specs.code.PartRuns.{printed_len};
 
 use nc_base::{Att, Dim, Header, Var, Version, padding_len};

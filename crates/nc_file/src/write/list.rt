@@ -1,10 +1,10 @@
 //! The parts that several lists share: a name, bytes with their padding, and what stands before the elements of a list.
 
 ghost use Rattle.std.specs.Prelude.{◌++◌, ◌<◌, length};
-ghost use Rattle.nc_base.specs.Bytes.{padding_len};
+ghost use Rattle.nc_types.specs.Bytes.{padding_len};
 ghost use Rattle.nc_base.specs.Grammar.{ignored, list_head, name_part, strict};
 ghost use Rattle.nc_base.specs.Parts.{print};
-ghost use Rattle.nc_base.specs.Versions.{count_limit};
+ghost use Rattle.nc_types.specs.Versions.{count_limit};
 ghost use Rattle.devices.specs.code.SinkWrites.{Wrote};
 
 use super::number::{put_count, put_u32};

@@ -4,7 +4,7 @@ ghost use Rattle.std.specs.Prelude.{◌+◌, ◌<◌};
 ghost use Rattle.std.specs.Int.{w32, w64};
 ghost use Rattle.nc_base.specs.Grammar.{count_part, number, offset_part};
 ghost use Rattle.nc_base.specs.Parts.{print};
-ghost use Rattle.nc_base.specs.Versions.{count_limit, count_width, offset_limit};
+ghost use Rattle.nc_types.specs.Versions.{count_limit, count_width, offset_limit};
 ghost use Rattle.devices.specs.code.SinkWrites.{Wrote};
 
 use byteorder::{BigEndian, ByteOrder};

@@ -2,11 +2,11 @@
 
 ghost use Rattle.std.specs.Prelude.{◌≡◌, ◌<◌, [], All, length};
 ghost use Rattle.std.specs.List.{flat_map};
-ghost use Rattle.nc_base.specs.Grammar.{number, shape_part, var_list, var_part, vsize_of, strict};
+ghost use Rattle.nc_base.specs.Grammar.{number, shape_part, var_list, var_part, strict};
 ghost use Rattle.nc_base.specs.Headers.{IsSoundVar};
 ghost use Rattle.nc_base.specs.Parts.{print};
 ghost use Rattle.nc_base.specs.Sizes.{padded_size};
-ghost use Rattle.nc_base.specs.Versions.{count_limit, count_width, offset_limit};
+ghost use Rattle.nc_types.specs.Versions.{count_limit, count_width, offset_limit, vsize_of};
 ghost use Rattle.devices.specs.code.SinkWrites.{Wrote};
 
 use super::attribute::put_att_list;

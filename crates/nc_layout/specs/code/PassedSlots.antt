@@ -1,8 +1,9 @@
 -- For contracts. What is kept of the slots that a loop has passed, for the rules on one slot.
 use Rattle.std.specs.Prelude.{◌≡◌, ◌<◌, ◌+◌, ◌-◌, ℕ, max, Bool, nat_lt, ◌&&◌, ◌||◌, if◌then◌else◌, List, take, drop, count_by, Option}
-use Rattle.nc_layout.specs.declared.{slot.Slot.Slot, slot_rules.PassedSlots.PassedSlots, finding.LayoutFinding.LayoutFinding}
-use Rattle.nc_layout.specs.declared.finding.LayoutPlace.TheVariants as places
-use Rattle.nc_layout.specs.declared.finding.LayoutFact.TheVariants as facts
+use Rattle.nc_layout.specs.declared.{slot.Slot.Slot, slot_rules.PassedSlots.PassedSlots}
+use Rattle.nc_findings.specs.declared.{layout_fact.LayoutFinding.LayoutFinding}
+use Rattle.nc_findings.specs.declared.layout_fact.LayoutPlace.TheVariants as places
+use Rattle.nc_findings.specs.declared.layout_fact.LayoutFact.TheVariants as facts
 use Rattle.nc_layout.specs.FindingIf.{finding_if}
 use Rattle.nc_layout.specs.Slots.{padded_slab_len, is_fixed}
 use Rattle.nc_layout.specs.SlotRules.{greatest_begin, fixed_slot_at, bytes_before}

@@ -1,9 +1,10 @@
 -- For contracts. One pass over the blocks in their order.
 use Rattle.std.specs.Prelude.{◌≡◌, ℕ, ◌-◌, max, nat_lt, nat_le, ◌&&◌, if◌then◌else◌, List, [], ◌∷◌, ◌++◌, Option, Some, None, IsPermutation, flat_map}
 use Rattle.std.specs.Option.{option_to_list, option_and_then, option_map_or}
-use Rattle.nc_layout.specs.declared.{finding.LayoutFinding.LayoutFinding, blocks.Extent.Extent, block_rules.Reached.Reached}
-use Rattle.nc_layout.specs.declared.finding.LayoutPlace.TheVariants as places
-use Rattle.nc_layout.specs.declared.finding.LayoutFact.TheVariants as facts
+use Rattle.nc_layout.specs.declared.{blocks.Extent.Extent, block_rules.Reached.Reached}
+use Rattle.nc_findings.specs.declared.{layout_fact.LayoutFinding.LayoutFinding}
+use Rattle.nc_findings.specs.declared.layout_fact.LayoutPlace.TheVariants as places
+use Rattle.nc_findings.specs.declared.layout_fact.LayoutFact.TheVariants as facts
 use Rattle.nc_layout.specs.FindingIf.{finding_if}
 use Rattle.nc_layout.specs.BlockRules.{block_findings}
 

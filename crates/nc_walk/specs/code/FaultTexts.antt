@@ -1,6 +1,6 @@
 -- For contracts. What `Display` writes of a fault.
 use Rattle.std.specs.Prelude.{[], ◌∷◌, codes, decimal}
-use Rattle.nc_base.specs.Bytes.{Bytes, concat_parts}
+use Rattle.nc_types.specs.Bytes.{Bytes, concat_parts}
 use Rattle.nc_walk.specs.declared.fault.WalkFault.{WalkFault}
 use Rattle.nc_walk.specs.declared.fault.WalkFault.TheVariants.{ReadFailed, DataTruncated}
 

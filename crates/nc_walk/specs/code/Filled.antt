@@ -2,7 +2,7 @@
 use Rattle.std.specs.Prelude.{ℕ, ◌+◌, ◌-◌, ◌*◌, List, [], ◌∷◌, ◌++◌, length, take, drop, replicate, zip, if◌then◌else◌}
 use Rattle.std.specs.List.{concat, flat_map}
 use Rattle.nc_base.specs.declared.{header.Dim.Dim, header.Header.Header, header.Var.Var, listed_array.Run.Run}
-use Rattle.nc_base.specs.Bytes.{padding_len}
+use Rattle.nc_types.specs.Bytes.{padding_len}
 use Rattle.nc_base.specs.GeneratedFile.{fill_bytes}
 use Rattle.nc_base.specs.Sizes.{is_record_var, slab_size}
 use Rattle.nc_walk.specs.declared.write.slab_fill.SlabFill.{SlabFill}

@@ -2,7 +2,7 @@
 use Rattle.std.specs.Prelude.{◌≡◌, ℕ, ◌+◌, ◌-◌, ◌*◌, ◌/◌, ◌%◌, ◌^◌, ◌<◌, ◌≤◌, min, if◌then◌else◌, List, length, map, Some}
 use Rattle.std.specs.List.{range_with_len, slice_get}
 use Rattle.nc_base.specs.declared.{header.Var.Var, header.Header.Header}
-use Rattle.nc_base.specs.Types.{size_of}
+use Rattle.nc_types.specs.Types.{size_of}
 use Rattle.nc_base.specs.Sizes.{is_record_var, slab_count, record_size}
 use Rattle.nc_base.specs.Places.{value_offsets}
 use Rattle.devices.specs.Sources.{SourceView}

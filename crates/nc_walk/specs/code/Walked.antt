@@ -4,7 +4,7 @@ use Rattle.std.specs.Prelude.{◌≡◌, ℕ, ◌+◌, ◌*◌, ◌<◌, ◌≤�
 use Rattle.std.specs.Bool.{OnTrue}
 use Rattle.std.specs.List.{concat}
 use Rattle.nc_base.specs.declared.{header.Header.Header, header.Var.Var}
-use Rattle.nc_base.specs.Types.{size_of}
+use Rattle.nc_types.specs.Types.{size_of}
 use Rattle.nc_base.specs.Numbers.{numbers}
 use Rattle.nc_base.specs.Sizes.{value_count}
 use Rattle.nc_base.specs.Places.{value_offsets, stored_bytes, stored_values, first_missing}

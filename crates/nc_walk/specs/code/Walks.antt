@@ -5,7 +5,7 @@ use Rattle.std.specs.List.{concat, slice_get}
 use Rattle.std.specs.Borrow.{Bor, MutBor, RattleType, Fml, follows_so}
 use mathlib.Core.Option.{none}
 use Rattle.nc_base.specs.declared.{header.Header.Header, header.Var.Var}
-use Rattle.nc_base.specs.Types.{size_of}
+use Rattle.nc_types.specs.Types.{size_of}
 use Rattle.nc_base.specs.Sizes.{value_count}
 use Rattle.nc_base.specs.Places.{bytes_at, value_offsets}
 use Rattle.devices.specs.Sources.{SourceView}

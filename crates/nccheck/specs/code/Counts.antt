@@ -1,6 +1,6 @@
 -- For contracts. The items of a run, counted, and the bytes of a list, taken one after the other.
 use Rattle.std.specs.Prelude.{◌≡◌, MatchBool, true, false, List, [], ◌++◌, fold, map, Option, Some, None}
-use Rattle.nc_base.specs.Bytes.{Bytes}
+use Rattle.nc_types.specs.Bytes.{Bytes}
 use Rattle.devices.specs.Readers.{ReaderView}
 use Rattle.nccheck.specs.CommandLine.{Asked}
 use Rattle.nccheck.specs.PathLists.{Item, items_after, ListEnd, Path}

@@ -1,6 +1,6 @@
 -- For contracts. Why reading the header failed, as a fault of the dump.
-use Rattle.nc_file.specs.declared.head_fault.HeadFault.{HeadFault}
-use Rattle.nc_file.specs.declared.head_fault.HeadFault.TheVariants as head
+use Rattle.nc_window.specs.declared.head_fault.HeadFault.{HeadFault}
+use Rattle.nc_window.specs.declared.head_fault.HeadFault.TheVariants as head
 use Rattle.ncdump.specs.declared.fault.DumpFault.{DumpFault}
 use Rattle.ncdump.specs.declared.fault.DumpFault.TheVariants.{OutOfMemory, ReadFailed, Format}
 

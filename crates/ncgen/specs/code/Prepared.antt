@@ -5,7 +5,7 @@ use Rattle.nc_base.specs.GeneratedFile.{data_of, known_records}
 use Rattle.nc_base.specs.Grammar.{header_spelling}
 use Rattle.nc_base.specs.Headers.{IsSound}
 use Rattle.nc_base.specs.code.OwedValues.{AreListed, whole_arrays}
-use Rattle.nc_base.specs.Versions.{offset_limit}
+use Rattle.nc_types.specs.Versions.{offset_limit}
 use Rattle.nc_walk.specs.code.RecordSlabs.{record_slabs}
 use Rattle.ncgen.specs.Generates.{Refuses}
 use Rattle.ncgen.specs.declared.{fault.GenFault.GenFault, prepared.Prepared.Prepared}

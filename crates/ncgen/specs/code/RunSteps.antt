@@ -1,6 +1,6 @@
 -- For contracts. What the steps of a run have done.
 use Rattle.std.specs.Prelude.{◌≡◌, ℕ, List, Option, Some, Result, Ok, Err, string_bytes}
-use Rattle.nc_base.specs.declared.version.Version.{Version}
+use Rattle.nc_types.specs.declared.version.Version.{Version}
 use Rattle.ncgen.specs.CommandLine.{Asked}
 use Rattle.ncgen.specs.Inputs.{Inputs, Gives, InputFails}
 use Rattle.ncgen.specs.Outputs.{Outputs, IsMade, IsWrittenAt, OutputFails}

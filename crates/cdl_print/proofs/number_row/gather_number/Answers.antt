@@ -1,5 +1,5 @@
 use Rattle.cdl_print.proofs.Prelude.{◌∙◌, ◌++◌, List, ℕ, ap, length, take, append_assoc, to_z-of_z, w128, cast_signed, cast_unsigned, number_text, lead_bytes, next_number_lead, look_at, number_bytes}
-use Rattle.cdl_number_text.specs.code.NumberTexts.{text_of}
+use Rattle.cdl_print.specs.code.NumberTexts.{text_of}
 use Rattle.cdl_print.proofs.number_row.gather_number.Goals as goal
 
 pub returns-clause-text : goal.returns-clause-text

@@ -3,7 +3,7 @@ use Rattle.std.proofs.Common.{Bor}
 use Rattle.std.proofs.lemmas.Option.{slice_get_past, slice_get_read}
 use Rattle.std.specs.Option.{IfSome}
 use Rattle.std.specs.Result.{result_ok}
-use Rattle.nc_base.specs.Names.{is_name}
+use Rattle.nc_types.specs.Names.{is_name}
 use Rattle.cdl_values.specs.declared.data.FoundTarget.{FoundTarget}
 use Rattle.cdl_values.proofs.AllowedNames.{not_allowed, refused}
 use Rattle.cdl_values.proofs.data.target_of.Goals as goal

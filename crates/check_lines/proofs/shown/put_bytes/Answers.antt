@@ -1,6 +1,6 @@
 use Rattle.std.proofs.Common.{ℕ, ◌≡◌, ◌∙◌, Bool, true, List, [], ◌∷◌, refl, sym, subst, arith}
 use Rattle.std.specs.List.{list_all}
-use Rattle.nc_base.specs.Bytes.{concat_parts}
+use Rattle.nc_types.specs.Bytes.{concat_parts}
 use Rattle.devices.specs.code.SinkWrites.{Wrote}
 use Rattle.check_lines.specs.Shown.{shown_byte, stays}
 use Rattle.check_lines.specs.Words.{each_of}

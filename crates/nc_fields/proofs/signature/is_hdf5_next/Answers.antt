@@ -1,5 +1,5 @@
 use Rattle.nc_fields.proofs.Prelude.{bytes_eq, next_of, source_of, hdf5_signature, Bytes, OnTrue_at, OnTrue_from, drop-drop, leb-true, leb-false, ◌≡◌, ℕ, ◌+◌, ◌-◌, ◌≤◌, min, Bool, true, false, leb, length, take, drop, take_all, take-take, refl, sym, ap, subst, ◌∙◌, arith}
-use Rattle.nc_file.proofs.Prelude.{drop-take}
+use Rattle.std.proofs.lemmas.List.{drop-take}
 use Rattle.nc_fields.proofs.signature.is_hdf5_next.Goals as goal
 
 -- the first bytes of some that there are enough of

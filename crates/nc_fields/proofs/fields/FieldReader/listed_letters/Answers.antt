@@ -1,5 +1,5 @@
 use Rattle.nc_fields.proofs.Prelude.{ap}
-use Rattle.nc_fields.specs.declared.entry.Content.TheVariants as content
+use Rattle.nc_findings.specs.declared.entry.Content.TheVariants as content
 use Rattle.nc_fields.proofs.Letters.{letters-answer, listed-letters, letters-memory, cut-letters}
 use Rattle.nc_fields.proofs.Checks.{failed}
 use Rattle.nc_fields.proofs.fields.FieldReader.listed_letters.Goals as goal

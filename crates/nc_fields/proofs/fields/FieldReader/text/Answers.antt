@@ -1,5 +1,5 @@
 use Rattle.nc_fields.proofs.Prelude.{refl, ap, ◌∙◌}
-use Rattle.nc_fields.specs.declared.entry.Content.TheVariants as content
+use Rattle.nc_findings.specs.declared.entry.Content.TheVariants as content
 use Rattle.nc_fields.proofs.Checks.{failed, listed-whole, listed-memory, listed-cut}
 use Rattle.nc_fields.proofs.Texts.{filling-listed}
 use Rattle.nc_fields.proofs.fields.FieldReader.text.Goals as goal

@@ -1,5 +1,5 @@
 use Rattle.nc_fields.proofs.Prelude.{err_from_is_err_and, in_place, refl, ap}
-use Rattle.nc_fields.specs.declared.entry.Content.TheVariants as content
+use Rattle.nc_findings.specs.declared.entry.Content.TheVariants as content
 use Rattle.nc_fields.proofs.Checks.{listed-whole, listed-memory, listed-cut}
 use Rattle.nc_fields.proofs.Texts.{values-listed}
 use Rattle.nc_fields.proofs.Passed.{cut-in-place, last-of}

@@ -1,7 +1,8 @@
 use Rattle.nc_file.proofs.Prelude.{◌≡◌, ℕ, ◌+◌, ◌-◌, ◌≤◌, Bool, true, List, length, drop, Result, Ok, Err, IfOk, sym, ap, ◌∙◌, subst, arith, length-drop, refl, OnTrue, OnTrue_from, Header, HeadFault, Format, Window, Ghosts, Reads, header_spelling, Kept, Read, left, source_of, header_part, Outcome, run, left_after, print-len, header-read, header-stopped, rest-within, end-within, stops-at, rules}
 use Rattle.nc_base.proofs.SoundSpelling.{spelled-sound}
-use Rattle.nc_file.specs.code.Answers.{EndsAt, header_end, fault_end, ReadAtLeast, ReadUpTo, IsInterrupted, Answers, HasAnswered}
-use Rattle.nc_file.proofs.PartRuns.{shorter}
+use Rattle.nc_file.specs.code.Answers.{EndsAt, header_end, fault_end, ReadAtLeast, IsInterrupted, Answers, HasAnswered}
+use Rattle.nc_window.specs.code.Window.{ReadUpTo}
+use Rattle.nc_window.proofs.PartRuns.{shorter}
 use Rattle.nc_file.proofs.read.header.read_unchecked_header.Goals as goal
 
 -- What a reader of the code answers is what the grammar says.
@@ -82,7 +83,7 @@ spelled_handed old new (Ok h) base filled pos d = omega (arith, print-len header
 spelled_handed old new (Err e) base filled pos d = tt
 
 pub returns-clause-answer : goal.returns-clause-answer
-returns-clause-answer g c = let s = c.new.ensures.starts in let h = answered _ _ _ s.base s.filled s.pos c.header.ensures in search rules
+returns-clause-answer g c = let s = c.new.ensures.starts in let h = answered _ _ _ s.base s.filled s.pos c.read_whole_header.ensures in search rules
 
 pub returns-clause-spelled : goal.returns-clause-spelled
-returns-clause-spelled g c = let s = c.new.ensures.starts in let h = spelled_handed _ _ _ s.base s.filled s.pos c.header.ensures in search rules
+returns-clause-spelled g c = let s = c.new.ensures.starts in let h = spelled_handed _ _ _ s.base s.filled s.pos c.read_whole_header.ensures in search rules

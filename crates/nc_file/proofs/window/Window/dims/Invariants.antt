@@ -1,9 +1,0 @@
-use Rattle.nc_file.proofs.Prelude.{◌≡◌, has_record_dim, dim_after, strict}
-use Rattle.nc_file.proofs.PartRuns.{ReadsOn}
-use Rattle.nc_file.proofs.window.Window.dims.Given as goal
-
-abbrev pub invariant-loop : goal.invariant-loop
-invariant-loop g l = record {
-  reads : ReadsOn l.fn.self l.self (dim_after strict l.version) l.n l.counter l.dims;
-  has_record : l.has_record ≡ has_record_dim l.dims;
-}

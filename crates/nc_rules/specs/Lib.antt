@@ -1,0 +1,9 @@
+pub mod Indexed
+pub mod FieldRules
+pub mod Ahead
+pub mod AttributeRules
+pub mod NameRules
+pub mod HeaderRules
+pub mod WholeHeader
+pub mod Findings
+pub mod code

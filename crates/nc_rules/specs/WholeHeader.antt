@@ -1,0 +1,70 @@
+-- Definition. Findings that need a whole header: the sizes of its variables, and the layout of the file.
+use Rattle.std.specs.Prelude.{ℕ, ◌==◌, Bool, true, false, if◌then◌else◌, List, [], ◌++◌, filter, map, slice_get, Option, Some, None, Ok, Err}
+use Rattle.std.specs.Option.{option_to_list}
+use Rattle.nc_types.specs.declared.{version.Version.Version}
+use Rattle.nc_types.specs.Versions.{vsize_of}
+use Rattle.nc_findings.specs.declared.{listing.Listing.Listing, place.FieldKind.FieldKind, layout_fact.LayoutFinding.LayoutFinding, finding.Fact.Fact, finding.Finding.Finding}
+use Rattle.nc_findings.specs.declared.place.FieldKind.TheVariants as field
+use Rattle.nc_findings.specs.Contents.{number_of}
+use Rattle.nc_layout.specs.declared.{slot.FileLayout.FileLayout}
+use Rattle.nc_findings.specs.declared.layout_fact.LayoutPlace.TheVariants as places
+use Rattle.nc_layout.specs.Slots.{padded_slab_len}
+use Rattle.nc_layout.specs.Blocks.{each_slot}
+use Rattle.nc_layout.specs.Findings.{layout_findings}
+use Rattle.nc_layout.specs.HeaderLayout.{layout_of}
+use Rattle.nc_findings.specs.declared.finding.Fact.TheVariants as fact
+use Rattle.nc_rules.specs.Indexed.{Indexed, indexed, finding}
+
+-- ---- the fields that these findings lie at
+
+abbrev pub is_numrecs : FieldKind → Bool
+is_numrecs field.NumRecs = true
+is_numrecs field = false
+
+abbrev pub is_vsize : FieldKind → Bool
+is_vsize field.Vsize = true
+is_vsize field = false
+
+abbrev pub is_begin : FieldKind → Bool
+is_begin field.Begin = true
+is_begin field = false
+
+-- the fields whose kind passes the test
+abbrev pub named : (FieldKind → Bool) → List Indexed → List Indexed
+named test fields = filter (λ (f : Indexed). test f.entry.place.field) fields
+
+-- ---- sizes
+
+-- the size of a variable isn't what is written for a padded slab of this size (`vsize`; a whole header has the field)
+abbrev pub vsize_finding : Version → ℕ → Option Indexed → Option Finding
+vsize_finding v padded None = None
+vsize_finding v padded (Some f) =
+    let expected = vsize_of v padded in if number_of f.entry.content == expected then None else Some (finding f (fact.Vsize expected))
+
+unfoldable pub vsize_findings : FileLayout → List Indexed → List Finding
+vsize_findings layout fields = each_slot (λ i slot. option_to_list (vsize_finding layout.version (padded_slab_len slot) (slice_get (named is_vsize fields) i))) 0 layout.slots
+
+-- ---- the layout
+
+-- the fact is found at the field (a whole header has it)
+abbrev pub found_at : Option Indexed → Fact → Finding
+found_at (Some f) fact = finding f fact
+found_at None fact = record { offset = 0; field = None; fact = fact }
+
+-- a finding about the layout, at its field
+abbrev pub located : List Indexed → LayoutFinding → Finding
+located fields l = elim l.place [
+  | places.NumRecs ↦ found_at (slice_get (named is_numrecs fields) 0) (fact.Layout l.fact)
+  | places.Vsize i ↦ found_at (slice_get (named is_vsize fields) i) (fact.Layout l.fact)
+  | places.Begin i ↦ found_at (slice_get (named is_begin fields) i) (fact.Layout l.fact)
+  | places.Data offset ↦ record { offset = offset; field = None; fact = fact.Layout l.fact }
+]
+
+-- ---- all of them
+
+-- in a file with this layout, whose header has these fields
+abbrev pub layout_facts : FileLayout → List Indexed → List Finding
+layout_facts layout fields = vsize_findings layout fields ++ map (located fields) (layout_findings layout)
+
+unfoldable pub whole_findings : Listing → List Finding
+whole_findings l = elim l.header [ Ok h ↦ layout_facts (layout_of h l.end l.file_len) (indexed l.entries) | Err fault ↦ [] ]

@@ -1,0 +1,6 @@
+pub mod Bytes
+pub mod Types
+pub mod Versions
+pub mod Names
+pub mod Escapes
+pub mod code
