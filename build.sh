@@ -48,6 +48,18 @@ progress() {
     done
 }
 
+# Prints when the proof of each crate that is named began and ended, in seconds: when its folder of results was made, and when its library
+# or its program was.
+times() {
+    local name out made
+    for name in "$@"; do
+        out=$copy/crates/$name/out
+        for made in "$out/rlib" "$out/$name"; do
+            [ ! -e "$made" ] || printf 'times: %s %s %s\n' "$name" "$(stat -c %W "$out")" "$(stat -c %Y "$made")"
+        done
+    done
+}
+
 mapfile -t crates < <(crates)
 if [ "${1:-}" = --crates ]; then
     printf '%s\n' "${crates[@]}"
@@ -65,6 +77,7 @@ if ! (cd "$copy" && "$kit" sh -c 'exec rt ci 2>&1') | progress "${crates[@]}" >b
     echo 'The programs are not built. bin/build.log has all that was said.' >&2
     exit 1
 fi
+times "${crates[@]}" >>bin/build.log
 for cli in "$copy"/crates/*_cli; do
     name=$(basename "$cli")
     cp "$cli/out/$name" "bin/${name%_cli}"

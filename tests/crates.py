@@ -2,6 +2,9 @@
 """Asks whether each library that a crate names stands in its line of crates.txt, in seconds and before anything is proved: otherwise a name
 that is lacking is found only when the crate, or its tests, are read by the prover.
 
+With --times LOG it prints, from the log of a build (bin/build.log), the minutes that the proof of each crate took, the longest chain of
+crates that wait for one another, and the sum. A crate that an earlier run has proved takes none.
+
 A name counts if a path of the code begins with it, or one of the specs and proofs after `Rattle.`, and it is that of a crate or of a library
 of the kit. A module of the crate, or one that the file imports, as `std::io`, hides a library of its name. The last line is 'N passed, M
 failed'; each crate counts as one.
@@ -9,8 +12,9 @@ failed'; each crate counts as one.
 
 import re
 import sys
+from pathlib import Path
 
-from prover import CRATES, kit, stands_on
+from prover import CRATES, below, kit, stands_on
 
 # a line that is a comment, and a name at the start of a path
 COMMENT = re.compile(r"^\s*(?://|--).*$", re.M)
@@ -38,7 +42,24 @@ def lacking(crate):
     return sorted(named & libraries - modules - ALWAYS - {crate, *stands_on()[crate]})
 
 
+def print_times(log):
+    """Prints each crate's minutes, the longest chain and the sum."""
+    said = re.findall(r"^times: (\w+) (\d+) (\d+)$", log.read_text(), re.M)
+    minutes = {crate: max(0, int(end) - int(start)) / 60 for crate, start, end in said}
+    chains = {}
+    for crate in sorted(minutes, key=lambda it: len(below([it]))):
+        under = max((chains[it] for it in stands_on()[crate] if it in minutes), key=lambda it: it[0], default=(0, []))
+        chains[crate] = under[0] + minutes[crate], [*under[1], crate]
+    for crate, (chain, _) in sorted(chains.items(), key=lambda it: it[1][0]):
+        print(f"{crate:16}{minutes[crate]:6.1f}  its chain{chain:6.1f}")
+    longest = max(chains.values(), key=lambda it: it[0])
+    print(f"longest chain: {longest[0]:.1f} min: {' '.join(longest[1])}")
+    print(f"sum: {sum(minutes.values()):.1f} min")
+
+
 def main():
+    if sys.argv[1:2] == ["--times"]:
+        return print_times(Path(sys.argv[2]))
     wrong = {crate: names for crate in stands_on() if (names := lacking(crate))}
     for crate, names in wrong.items():
         print(f"crates.txt: the line of {crate} lacks {' '.join(names)}")
