@@ -3,7 +3,6 @@
 
     tests/documents.py           checks all of the following
     tests/documents.py --text    the same without the commands of README.md, and so without bin
-    tests/documents.py --lines   writes the numbers of lines, and the words of files for contracts, into docs/PROVED.md
 
 - A link to a file leads to one that is there, and a link to a heading to one that stands in its document.
 - A file of code that is named, with its folders or without, is there.
@@ -11,9 +10,8 @@
 - The code at the head of a crate's `src/lib.rt` is the body of a function of the crate `uses`, which may end with `Ok(())` besides.
 - Each block of Rattle in a document stands so in a file of the code.
 - The first line of each file of `specs/` says its kind, and those for contracts are the ones in `specs/code/`.
-- docs/PROVED.md lists each file of the kind Definition and of the kind Law, under a heading for its kind and with its number of lines;
-  and each word that these files use of a file for contracts.
-- README.md has at most README_LINES lines.
+- docs/PROVED.md lists each file of the kind Definition and of the kind Law, under a heading for its kind; and each word that these files
+  use of a file for contracts.
 - Each command of a block of README.md that begins with ```console is run, with bin/ncdump and bin/ncgen, and writes what is printed
   below it, to standard output and standard error together. The commands of a block run one after the other in one empty folder, in which
   bin and samples are those of the repository. Other blocks aren't run.
@@ -35,7 +33,6 @@ from pathlib import Path
 
 TOP = Path(__file__).resolve().parent.parent
 README = TOP / "README.md"
-README_LINES = 105
 PROVED = TOP / "docs" / "PROVED.md"
 DOCUMENTS = sorted(TOP.glob("*.md")) + sorted(TOP.glob("docs/*.md"))
 PAGES = sorted(TOP.glob("man/*.[1-8]"))
@@ -60,9 +57,8 @@ HEADING = re.compile(r"^#+ +(.+?) *$", re.M)
 KIND = re.compile(r"-- (Definition|Law|For contracts)\. ")
 # what a file of `specs/` uses of a file for contracts
 USED = re.compile(r"^use Rattle\.(\w+)\.specs\.code\.(\w+)(?:\.\{([^}]*)\}| as (\w+))", re.M)
-# a row of PROVED.md for a file of `specs/` that has to be read, and the last row of such a list
-ROW = re.compile(r"(\| \w+ \| \[\w+\]\(\.\./(crates/\w+/specs/\w+\.antt)\) \| )(\d+)( \|.*)")
-SUM = re.compile(r"(\| \| together \| )(\d+)( \|.*)")
+# a row of PROVED.md for a file of `specs/` that has to be read
+ROW = re.compile(r"^\| \w+ \| \[\w+\]\(\.\./(crates/\w+/specs/\w+\.antt)\) \| ", re.M)
 # the head of the list of the words that are used of files for contracts, and its rows
 WORDS = re.compile(r"(?<=^\| Crate \| File \| Words \|\n\|---\|---\|---\|\n)(?:\|.*\n)*", re.M)
 # the heading of the list of laws; the lists above it have definitions
@@ -163,33 +159,13 @@ def listed_words():
         yield f"| {crate} | [{file}](../crates/{crate}/specs/code/{file}.antt) | {', '.join(f'`{it}`' for it in sorted(names))} |"
 
 
-def counted(text):
-    """The text of PROVED.md with the present numbers of lines, their sums, and the words of files for contracts."""
-    lines, total = [], 0
-    for line in WORDS.sub("".join(f"{row}\n" for row in listed_words()), text).splitlines():
-        row, end = ROW.fullmatch(line), SUM.fullmatch(line)
-        if row and (TOP / row[2]).exists():
-            count = len((TOP / row[2]).read_text().splitlines())
-            total += count
-            line = f"{row[1]}{count}{row[4]}"
-        elif end:
-            line = f"{end[1]}{total}{end[3]}"
-        elif not line.startswith("|"):
-            total = 0
-        lines.append(line)
-    return "".join(f"{line}\n" for line in lines)
-
-
 def believed():
-    """Each line of the lists of PROVED.md, and each file that has to be in them."""
+    """The words that PROVED.md lists, and each file that has to be in its lists."""
     text = PROVED.read_text()
-    for right in counted(text).splitlines():
-        if ROW.fullmatch(right) or SUM.fullmatch(right):
-            yield f"docs/PROVED.md: {right[:40]}", "" if f"\n{right}\n" in text else f"IS NOW\n{right}"
     right = "".join(f"{row}\n" for row in listed_words())
     yield "docs/PROVED.md: words of files for contracts", "" if (WORDS.findall(text) or [""]) == [right] else f"ARE NOW\n{right}"
     above, _, below = text.partition(f"\n{LAWS}\n")
-    listed = {row[2]: kind for part, kind in ((above, "Definition"), (below, "Law")) for row in ROW.finditer(part)}
+    listed = {row[1]: kind for part, kind in ((above, "Definition"), (below, "Law")) for row in ROW.finditer(part)}
     for path, source in specs():
         kind = KIND.match(source)
         if kind and kind[1] != "For contracts":
@@ -197,12 +173,6 @@ def believed():
             yield f"{path}: {kind[1]}", "" if listed.pop(path, None) == kind[1] else f"ISN'T LISTED AS {kind[1]} IN docs/PROVED.md:\n{row}"
     for path, kind in listed.items():
         yield f"docs/PROVED.md: {path}", f"IS NO {kind}"
-
-
-def length():
-    """The length of README.md."""
-    count = len(README.read_text().splitlines())
-    yield f"README.md: {count} lines", "" if count <= README_LINES else f"MORE THAN {README_LINES}"
 
 
 def commands(block):
@@ -270,10 +240,7 @@ def versions():
 
 def main():
     """Checks all, and prints what is wrong."""
-    if sys.argv[1:] == ["--lines"]:
-        PROVED.write_text(counted(PROVED.read_text()))
-        return 0
-    checks = [links, files, definitions, examples, kinds, believed, length, pages, versions]
+    checks = [links, files, definitions, examples, kinds, believed, pages, versions]
     if sys.argv[1:] != ["--text"]:
         missing = [it for it in PROGRAMS if not os.access(it, os.X_OK)]
         if missing:

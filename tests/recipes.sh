@@ -79,6 +79,12 @@ verdict rule_for_a_file 0
 run ncdump tides.nc
 cp tides.cdl "$work/want/stdout"
 verdict file_of_the_rule 0
+cp tides.cdl large.cdl
+rule '%.nc: %.cdl' large.nc
+verdict rule_for_a_file_of_another_kind 0
+run test "$(head -c 4 large.nc | tail -c 1 | od -An -tu1)" -eq 5
+verdict kind_of_the_rule 0
+rm large.nc large.cdl
 echo before >all
 recipe '>>all'
 verdict file_after_others 0
@@ -123,6 +129,12 @@ stdout '- cm = 12, 31, 47 ;\n+ cm = 12, 32, 47 ;\n'
 recipe 'diff -u old.cdl new.cdl'
 sed -i '/^[-+] /!d' "$work/got/stdout"
 verdict change_between_two_files 1
+mkdir each && cp samples/stations.nc tides.nc each && cd each
+recipe 'for file in'
+verdict each_file_of_a_directory 0
+run cmp stations.cdl ../samples/stations.cdl
+verdict text_beside_its_file 0
+cd ..
 recipe 'ncdump samples/stations.nc | ncgen'
 verdict copy 0
 run cmp copy.nc samples/stations.nc
