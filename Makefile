@@ -7,14 +7,20 @@ stamp = printf 'juniperbrick %s\n' "$$(cat VERSION)" >bin/version && \
 	if command -v objcopy >/dev/null; then objcopy --remove-section .version --add-section .version=bin/version bin/$(1); fi
 # where `make install` puts the programs, their manual pages, completions, documents and samples
 PREFIX = /usr/local
+bindir = $(PREFIX)/bin
+mandir = $(PREFIX)/share/man
+docdir = $(PREFIX)/share/doc/$(NAMES)juniperbrick
+# which programs it installs
+PROGRAMS = ncdump ncgen nccheck
 # what comes before the names of the installed programs and pages, and of the folder of documents, such as juniper- beside Unidata's
 NAMES =
 # The shell gets the paths by its environment, so they may have spaces.
-install uninstall: export names = $(NAMES)
-install uninstall: export programs = $(DESTDIR)$(PREFIX)/bin
-install uninstall: export pages = $(DESTDIR)$(PREFIX)/share/man
+install installcheck uninstall: export names = $(NAMES)
+install installcheck uninstall: export chosen = $(PROGRAMS)
+install installcheck uninstall: export programs = $(DESTDIR)$(bindir)
+install uninstall: export pages = $(DESTDIR)$(mandir)
 install uninstall: export completions = $(DESTDIR)$(PREFIX)/share/bash-completion/completions
-install uninstall: export documents = $(DESTDIR)$(PREFIX)/share/doc/$(NAMES)juniperbrick
+install uninstall: export documents = $(DESTDIR)$(docdir)
 release = juniperbrick-$(shell cat VERSION)-linux-x86_64
 # the day of the newest version
 day = $(shell sed -n 's/^## .*(\(.*\))$$/\1/p' CHANGELOG.md | head -n 1)
@@ -116,12 +122,10 @@ unexport MAKEFLAGS
 
 # Installs the programs that bin/ has, with what belongs to them. Proves and builds the programs first if bin/ lacks them.
 install: names
-	test -x bin/ncdump || $(MAKE) bin/ncdump
-	test -x bin/ncgen || $(MAKE) bin/ncgen
-	test -x bin/nccheck || $(MAKE) bin/nccheck
+	for name in $$chosen; do test -x bin/$$name || $(MAKE) bin/$$name || exit 1; done
 	install -d "$$programs" "$$pages/man1" "$$pages/man5" "$$completions" "$$documents/docs" "$$documents/samples"
 	install -m 644 samples/*.cdl samples/*.nc "$$documents/samples"
-	@$(put); for name in ncdump ncgen nccheck; do \
+	@$(put); for name in $$chosen; do \
 		install -m 755 bin/$$name "$$programs/$$names$$name" && \
 		put '$(renamed)' man/$$name.1 "$$pages/man1/$$names$$name.1" && \
 		put 's/ ('$$name')$$/ $(NAMES)\1/' completions/$$name "$$completions/$$names$$name" || exit 1; \
@@ -131,7 +135,19 @@ install: names
 		put '$(unlinked)' $$document "$$documents/$$document" || exit 1; \
 	done
 
-# Removes what `make install` has put there, if DESTDIR, PREFIX and NAMES are the same.
+# Runs the installed programs on a sample, and compares what they write.
+installcheck: names
+	@folder=$$(mktemp -d) && trap 'rm -rf "$$folder"' EXIT && for name in $$chosen; do \
+		program=$$programs/$$names$$name; \
+		case $$name in \
+			ncdump) "$$program" $(sample).nc >"$$folder/cdl" && cmp "$$folder/cdl" $(sample).cdl ;; \
+			ncgen) "$$program" -k nc6 -o "$$folder/nc" $(sample).cdl && cmp "$$folder/nc" $(sample).nc ;; \
+			nccheck) "$$program" $(sample).nc ;; \
+		esac || exit 1; \
+		echo "$$program writes what it should"; \
+	done
+
+# Removes what `make install` has put there, if DESTDIR, PREFIX, NAMES and the folders are the same.
 uninstall: names
 	for name in ncdump ncgen nccheck; do \
 		rm -f "$$programs/$$names$$name" "$$completions/$$names$$name" "$$pages/man1/$$names$$name.1" || exit 1; \
@@ -139,9 +155,13 @@ uninstall: names
 	rm -f "$$pages/man5/$${names}cdl.5"
 	rm -rf "$$documents"
 
-# Says in a sentence what NAMES may have, before anything is written or removed.
+# Says in a sentence what NAMES and PROGRAMS may have, before anything is written or removed.
 names:
 	@case $$names in *[!A-Za-z0-9._+-]*) echo 'NAMES may have only letters, digits and the characters . _ + -' >&2; exit 1 ;; esac
+	@for name in $$chosen; do case $$name in \
+		ncdump|ncgen|nccheck) ;; \
+		*) echo 'PROGRAMS may have only the names ncdump, ncgen and nccheck' >&2; exit 1 ;; \
+	esac; done
 
 # put EDIT FROM TO: a word for the shell, which installs an edited file
 put = put() { sed -E "$$1" "$$2" >"$$3" && chmod 644 "$$3"; }
@@ -185,4 +205,4 @@ clean:
 	@$(sources)
 	rm -rf bin dist crates/*/out
 
-.PHONY: all try kit test test-contracts test-proofs test-definitions test-named test-bodies test-programs test-scale install uninstall names dist check clean
+.PHONY: all try kit test test-contracts test-proofs test-definitions test-named test-bodies test-programs test-scale install installcheck uninstall names dist check clean

@@ -26,7 +26,7 @@ verdict documents_lead_to_definitions 0
 
 # a path that has make and the tools of a system, and neither rt nor a compiler
 mkdir "$work/path"
-for tool in make sh bash install cat chmod sed head test rm; do
+for tool in make sh bash install cat chmod sed head test rm cmp mktemp; do
     ln -s "$(type -P "$tool")" "$work/path/$tool"
 done
 run env PATH="$work/path" make -s
@@ -35,6 +35,19 @@ stderr 'This folder is a release, which needs no build: make install installs th
 verdict no_build_in_a_release 0
 run env PATH="$work/path" make -s install DESTDIR="$work" PREFIX=/usr
 verdict installs_without_the_kit 0
+run env PATH="$work/path" make -s installcheck DESTDIR="$work" PREFIX=/usr
+stdout "$(printf '%s writes what it should\n' "$work"/usr/bin/{ncdump,ncgen,nccheck})\n"
+verdict installed_programs_are_checked 0
+run env PATH="$work/path" make -s install DESTDIR="$work/one" PREFIX=/usr bindir=/opt/bin mandir=/opt/man docdir=/opt/doc PROGRAMS=nccheck
+verdict installs_one_program 0
+run find "$work/one" -type f -not -path '*/doc/*' -printf '%P\n'
+sort -o "$work/got/stdout" "$work/got/stdout"
+stdout "$(printf '%s\n' opt/bin/nccheck opt/man/man1/nccheck.1 opt/man/man5/cdl.5 usr/share/bash-completion/completions/nccheck)\n"
+verdict one_program_in_folders_of_its_own 0
+run env PATH="$work/path" make -s install DESTDIR="$work/none" PROGRAMS='nccheck nccopy'
+grep -v '^make: ' "$work/got/stderr" >"$work/said" && mv "$work/said" "$work/got/stderr"
+stderr 'PROGRAMS may have only the names ncdump, ncgen and nccheck\n'
+verdict other_programs_are_refused 2
 
 for name in ncdump ncgen nccheck; do
     run grep -c "^juniperbrick $version$" <(strings "$work/usr/bin/$name")
