@@ -3,7 +3,7 @@
 # stand-in says so of each crate, and gives the programs of bin/. Also tries what a newcomer may have: no rt, one of another kit, little memory.
 set -u
 . "$(dirname "$0")/verdicts.sh"
-export PROGRAMS=$top/bin CALLS=$work/calls KIT=rattle-kit-13b UNPROVED= MEMINFO=$work/meminfo
+export BUILT=$top/bin CALLS=$work/calls KIT=rattle-kit-13b UNPROVED= MEMINFO=$work/meminfo
 echo 'MemAvailable: 1073741824 kB' >"$MEMINFO"
 
 mkdir "$work/kit" "$work/tools"
@@ -20,11 +20,11 @@ case "$*" in
             fi
             printf '%s\n' "== $name" "rt: $name proved"
             if [ -f "crates/$name/src/main.rt" ]; then
-                mkdir "crates/$name/out" && cp "$PROGRAMS/${name%_cli}" "crates/$name/out/$name"
+                mkdir "crates/$name/out" && cp "$BUILT/${name%_cli}" "crates/$name/out/$name"
             fi
         done
         ;;
-    'try -- '*) "$PROGRAMS/ncdump" "$3" ;;
+    'try -- '*) "$BUILT/ncdump" "$3" ;;
     *) echo "not in both kits: rt $*" >&2 && exit 1 ;;
 esac
 END

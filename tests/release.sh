@@ -45,7 +45,7 @@ sort -o "$work/got/stdout" "$work/got/stdout"
 stdout "$(printf '%s\n' opt/bin/nccheck opt/man/man1/nccheck.1 opt/man/man5/cdl.5 usr/share/bash-completion/completions/nccheck)\n"
 verdict one_program_in_folders_of_its_own 0
 run env PATH="$work/path" make -s install DESTDIR="$work/none" PROGRAMS='nccheck nccopy'
-grep -v '^make: ' "$work/got/stderr" >"$work/said" && mv "$work/said" "$work/got/stderr"
+grep -v '^make' "$work/got/stderr" >"$work/said" && mv "$work/said" "$work/got/stderr"
 stderr 'PROGRAMS may have only the names ncdump, ncgen and nccheck\n'
 verdict other_programs_are_refused 2
 
