@@ -44,7 +44,9 @@ def lacking(crate):
 
 def print_times(log):
     """Prints each crate's minutes, the longest chain and the sum."""
-    said = re.findall(r"^times: (\w+) (\d+) (\d+)$", log.read_text(), re.M)
+    said = re.findall(r"^times: (\w+) ([1-9]\d*) (\d+)$", log.read_text(), re.M)
+    if not said:
+        return f"{log} has no times: the build failed, or this file system doesn't say when a folder was made"
     minutes = {crate: max(0, int(end) - int(start)) / 60 for crate, start, end in said}
     chains = {}
     for crate in sorted(minutes, key=lambda it: len(below([it]))):

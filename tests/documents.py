@@ -19,8 +19,8 @@
   PAGE_COLUMNS bytes, which of the three `mandoc` alone looks at.
 - VERSION, the newest version of CHANGELOG.md and the manual pages agree.
 
-The last line is 'N passed, M failed'; a link, a file, a definition, an example, a file of `specs/`, a line of such a list, a
-command, a page by its lines and under a tool, and a file that names the version count as one each.
+The last line is 'N passed, M failed'; a link, a file, a definition, an example, a file of `specs/`, a command, a page by
+its lines and under a tool, and a file that names the version count as one each.
 """
 
 import os

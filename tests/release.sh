@@ -38,11 +38,11 @@ verdict installs_without_the_kit 0
 run env PATH="$work/path" make -s installcheck DESTDIR="$work" PREFIX=/usr
 stdout "$(printf '%s writes what it should\n' "$work"/usr/bin/{ncdump,ncgen,nccheck})\n"
 verdict installed_programs_are_checked 0
-run env PATH="$work/path" make -s install DESTDIR="$work/one" PREFIX=/usr bindir=/opt/bin mandir=/opt/man docdir=/opt/doc PROGRAMS=nccheck
+run env PATH="$work/path" make -s install DESTDIR="$work/one" PREFIX=/usr bindir=/own/bin mandir=/own/man docdir=/own/doc PROGRAMS=nccheck
 verdict installs_one_program 0
 run find "$work/one" -type f -not -path '*/doc/*' -printf '%P\n'
 sort -o "$work/got/stdout" "$work/got/stdout"
-stdout "$(printf '%s\n' opt/bin/nccheck opt/man/man1/nccheck.1 opt/man/man5/cdl.5 usr/share/bash-completion/completions/nccheck)\n"
+stdout "$(printf '%s\n' own/bin/nccheck own/man/man1/nccheck.1 own/man/man5/cdl.5 usr/share/bash-completion/completions/nccheck)\n"
 verdict one_program_in_folders_of_its_own 0
 run env PATH="$work/path" make -s install DESTDIR="$work/none" PROGRAMS='nccheck nccopy'
 grep -v '^make' "$work/got/stderr" >"$work/said" && mv "$work/said" "$work/got/stderr"
