@@ -19,7 +19,9 @@ install installcheck uninstall: export names = $(NAMES)
 install installcheck uninstall: export chosen = $(PROGRAMS)
 install installcheck uninstall: export programs = $(DESTDIR)$(bindir)
 install uninstall: export pages = $(DESTDIR)$(mandir)
-install uninstall: export completions = $(DESTDIR)$(PREFIX)/share/bash-completion/completions
+install uninstall: export bash = $(DESTDIR)$(PREFIX)/share/bash-completion/completions
+install uninstall: export zsh = $(DESTDIR)$(PREFIX)/share/zsh/site-functions
+install uninstall: export fish = $(DESTDIR)$(PREFIX)/share/fish/vendor_completions.d
 install uninstall: export documents = $(DESTDIR)$(docdir)
 release = juniperbrick-$(shell cat VERSION)-linux-x86_64
 # the day of the newest version
@@ -123,12 +125,15 @@ unexport MAKEFLAGS
 # Installs the programs that bin/ has, with what belongs to them. Proves and builds the programs first if bin/ lacks them.
 install: names
 	for name in $$chosen; do test -x bin/$$name || $(MAKE) bin/$$name || exit 1; done
-	install -d "$$programs" "$$pages/man1" "$$pages/man5" "$$completions" "$$documents/docs" "$$documents/samples"
+	install -d "$$programs" "$$pages/man1" "$$pages/man5" "$$bash" "$$zsh" "$$fish" "$$documents/docs" "$$documents/samples"
 	install -m 644 samples/*.cdl samples/*.nc "$$documents/samples"
+	install -m 644 docs/*.svg "$$documents/docs"
 	@$(put); for name in $$chosen; do \
 		install -m 755 bin/$$name "$$programs/$$names$$name" && \
 		put '$(renamed)' man/$$name.1 "$$pages/man1/$$names$$name.1" && \
-		put 's/ ('$$name')$$/ $(NAMES)\1/' completions/$$name "$$completions/$$names$$name" || exit 1; \
+		put 's/ ('$$name')$$/ $(NAMES)\1/' completions/$$name "$$bash/$$names$$name" && \
+		put 's/ ('$$name')$$/ $(NAMES)\1/' completions/_$$name "$$zsh/_$$names$$name" && \
+		put 's/^complete -c /&$(NAMES)/' completions/$$name.fish "$$fish/$$names$$name.fish" || exit 1; \
 	done
 	@$(put); put '$(renamed)' man/cdl.5 "$$pages/man5/$${names}cdl.5"
 	@$(put); for document in README.md CHANGELOG.md docs/*.md; do \
@@ -150,7 +155,8 @@ installcheck: names
 # Removes what `make install` has put there, if DESTDIR, PREFIX, NAMES and the folders are the same.
 uninstall: names
 	for name in ncdump ncgen nccheck; do \
-		rm -f "$$programs/$$names$$name" "$$completions/$$names$$name" "$$pages/man1/$$names$$name.1" || exit 1; \
+		rm -f "$$programs/$$names$$name" "$$pages/man1/$$names$$name.1" "$$bash/$$names$$name" "$$zsh/_$$names$$name" \
+			"$$fish/$$names$$name.fish" || exit 1; \
 	done
 	rm -f "$$pages/man5/$${names}cdl.5"
 	rm -rf "$$documents"

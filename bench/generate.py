@@ -1,12 +1,13 @@
 #!/usr/bin/env python3
 """Times bin/ncgen beside Unidata's ncgen (Debian's netcdf-bin) on texts of many kinds, in one run.
 
-    bench/generate.py [NAME ...]
+    bench/generate.py [--keep] [NAME ...]
 
 It makes the texts, and runs both programs in turn on each. For each text it prints its size, the least time of each program in
 milliseconds, how many times as fast ours is, and how many megabytes of text ours reads a second, with an output and without. It
 also prints the most memory that each program took, and how much of ours isn't the text and the packed values. It needs GNU time,
-and bin/ncgen built.
+and bin/ncgen built. With --keep, the times of texts that the table has go into
+pictures/times.tsv.
 
 Some texts come in two lengths. The run fails where four times the length takes more than six times as long.
 """
@@ -17,7 +18,7 @@ import sys
 import tempfile
 from pathlib import Path
 
-from measure import GENERATE, THEIR_GENERATE, peak, run
+from measure import GENERATE, THEIR_GENERATE, keep, peak, run
 
 RUNS = 5
 # milliseconds from which on a program runs once, and from which on Unidata's is stopped
@@ -161,11 +162,13 @@ def timed(name, content, out="made.nc"):
     speeds = f"{size / ours / 1000:7.1f} {size / reading / 1000:7.1f}"
     print(f"{name:30} {size:10} {shown} {speeds} {their_peak:8} {held:8} {beside:8}", flush=True)
     os.remove(path)
+    if "--keep" in sys.argv and theirs:
+        keep("ncgen", name, theirs, ours)
     return ours
 
 
 def main():
-    wanted = set(sys.argv[1:])
+    wanted = {*sys.argv[1:]} - {"--keep"}
     faults = []
     with tempfile.TemporaryDirectory() as folder:
         os.chdir(folder)

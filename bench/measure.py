@@ -40,6 +40,15 @@ def peak(words):
     return int(ran.stderr.split()[-1])
 
 
+def keep(program, name, theirs, ours):
+    """Puts two times into the table that docs/times.svg is drawn from, if it has a row for them from an earlier run."""
+    table = TOP / "pictures" / "times.tsv"
+    rows = dict(it.rsplit("\t", 2)[0:1] + [it] for it in table.read_text().splitlines())
+    if f"{program}\t{name}" in rows:
+        rows[f"{program}\t{name}"] = f"{program}\t{name}\t{theirs:.1f}\t{ours:.1f}"
+        table.write_text("".join(f"{it}\n" for it in rows.values()))
+
+
 def heaviest(*words):
     """The function that takes the most instructions of the words, those of the functions that it calls left out, and its part in percent."""
     with tempfile.NamedTemporaryFile() as counts:

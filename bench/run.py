@@ -1,11 +1,12 @@
 #!/usr/bin/env python3
 """Times bin/ncdump beside Unidata's ncdump (Debian's netcdf-bin) on files of many kinds, in one run.
 
-    bench/run.py [NAME ...]
+    bench/run.py [--keep] [NAME ...]
 
 It makes the files, runs the programs in turn, and prints for each file the least time of each in milliseconds, how many times as
 fast ours is, the ratio of its time to that of a plain loop in C over the same values (bench/limit.c), and the most memory that each
-took. Texts are compared with the line breaks inside lists undone. Wants GNU time, and bin/ncdump and bin/ncgen built.
+took. Texts are compared with the line breaks inside lists undone. Wants GNU time, and bin/ncdump and bin/ncgen built. With --keep, the
+times of files that the table has go into pictures/times.tsv.
 
 Files of many variables come in two lengths. The run fails where four times the variables take more than six times as long, and
 where ours is slower than Unidata's.
@@ -20,7 +21,7 @@ import sys
 import tempfile
 
 from generate import MIXES
-from measure import DUMP, GENERATE, THEIR_DUMP, built, peak, run
+from measure import DUMP, GENERATE, THEIR_DUMP, built, keep, peak, run
 
 RUNS = 7
 # milliseconds from which on a program runs once
@@ -183,7 +184,8 @@ def timed(file, limit):
 
 
 def main():
-    wanted = set(sys.argv[1:])
+    kept = "--keep" in sys.argv
+    wanted = {*sys.argv[1:]} - {"--keep"}
     faults = []
     with tempfile.TemporaryDirectory() as folder:
         os.chdir(folder)
@@ -192,7 +194,9 @@ def main():
         for make in FILES:
             file = make()
             if not wanted or file.name in wanted:
-                timed(file, limit)
+                times = timed(file, limit)
+                if kept:
+                    keep("ncdump", file.name, times["theirs"], times["ours"])
             os.remove(file.path)
         for name, make, lengths in GROWING:
             if wanted and name not in wanted:

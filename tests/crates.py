@@ -3,7 +3,8 @@
 that is lacking is found only when the crate, or its tests, are read by the prover.
 
 With --times LOG it prints, from the log of a build (bin/build.log), the minutes that the proof of each crate took, the longest chain of
-crates that wait for one another, and the sum. A crate that an earlier run has proved takes none.
+crates that wait for one another, and the sum. A crate that an earlier run has proved takes none. --keep LOG also writes the minutes into
+pictures/minutes.tsv, which docs/crates.svg is drawn from.
 
 A name counts if a path of the code begins with it, or one of the specs and proofs after `Rattle.`, and it is that of a crate or of a library
 of the kit. A module of the crate, or one that the file imports, as `std::io`, hides a library of its name. The last line is 'N passed, M
@@ -14,7 +15,7 @@ import re
 import sys
 from pathlib import Path
 
-from prover import CRATES, below, kit, stands_on
+from prover import CRATES, TOP, below, kit, stands_on
 
 # a line that is a comment, and a name at the start of a path
 COMMENT = re.compile(r"^\s*(?://|--).*$", re.M)
@@ -42,8 +43,8 @@ def lacking(crate):
     return sorted(named & libraries - modules - ALWAYS - {crate, *stands_on()[crate]})
 
 
-def print_times(log):
-    """Prints each crate's minutes, the longest chain and the sum."""
+def print_times(log, keeps):
+    """Prints each crate's minutes, the longest chain and the sum; and writes the minutes into the table of the picture if `keeps` is true."""
     said = re.findall(r"^times: (\w+) ([1-9]\d*) (\d+)$", log.read_text(), re.M)
     if not said:
         return f"{log} has no times: the build failed, or this file system doesn't say when a folder was made"
@@ -57,11 +58,13 @@ def print_times(log):
     longest = max(chains.values(), key=lambda it: it[0])
     print(f"longest chain: {longest[0]:.1f} min: {' '.join(longest[1])}")
     print(f"sum: {sum(minutes.values()):.1f} min")
+    if keeps:
+        (TOP / "pictures" / "minutes.tsv").write_text("".join(f"{crate}\t{took:.1f}\n" for crate, took in minutes.items()))
 
 
 def main():
-    if sys.argv[1:2] == ["--times"]:
-        return print_times(Path(sys.argv[2]))
+    if sys.argv[1:2] in (["--times"], ["--keep"]):
+        return print_times(Path(sys.argv[2]), sys.argv[1] == "--keep")
     wrong = {crate: names for crate in stands_on() if (names := lacking(crate))}
     for crate, names in wrong.items():
         print(f"crates.txt: the line of {crate} lacks {' '.join(names)}")

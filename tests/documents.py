@@ -18,9 +18,10 @@
 - `man`, `groff` and `mandoc` have no word to say of a manual page; one that isn't installed is skipped. No line of a page has more than
   PAGE_COLUMNS bytes, which of the three `mandoc` alone looks at.
 - VERSION, the newest version of CHANGELOG.md and the manual pages agree.
+- The pictures are what `pictures/draw.py` draws of their data now, and the times in docs/SPEED.md are those of pictures/times.tsv.
 
 The last line is 'N passed, M failed'; a link, a file, a definition, an example, a file of `specs/`, a command, a page by
-its lines and under a tool, and a file that names the version count as one each.
+its lines and under a tool, a file that names the version, the pictures, and a row of times count as one each.
 """
 
 import os
@@ -46,7 +47,7 @@ LINK = re.compile(r"\]\(([^()\s]+)\)")
 # a file of code, but for the name File.antt, which stands for any
 FILE = re.compile(r"`((?!\S*\bFile\.antt)[\w/.]+\.(?:rt|antt|py|sh|c))`")
 # the folders with code
-CODE = ["crates/*/src", "crates/*/specs", "crates/*/proofs", "tests", "bench", "samples"]
+CODE = ["crates/*/src", "crates/*/specs", "crates/*/proofs", "tests", "bench", "pictures", "samples"]
 # a definition, named by its file
 NAMED = re.compile(r"`([A-Z]\w+)\.(?!antt`)(\w+)`")
 # an example at the head of a crate, and the body of a function
@@ -61,6 +62,8 @@ USED = re.compile(r"^use Rattle\.(\w+)\.specs\.code\.(\w+)(?:\.\{([^}]*)\}| as (
 ROW = re.compile(r"^\| \w+ \| \[\w+\]\(\.\./(crates/\w+/specs/\w+\.antt)\) \| ", re.M)
 # the head of the list of the words that are used of files for contracts, and its rows
 WORDS = re.compile(r"(?<=^\| Crate \| File \| Words \|\n\|---\|---\|---\|\n)(?:\|.*\n)*", re.M)
+# a row of SPEED.md with two times
+TIMES = re.compile(r"^\| `(\w+)` \| [^|]* \| ([\d.]+) \| ([\d.]+) \| [\d.]+ \|", re.M)
 # the heading of the list of laws; the lists above it have definitions
 LAWS = "### The laws"
 # each tool that looks at a page, with the words before its path
@@ -238,9 +241,17 @@ def versions():
         yield f"{page.relative_to(TOP)}: version", "" if agrees else f"IS NOT {version}"
 
 
+def pictures():
+    """The pictures, and each row of times of SPEED.md."""
+    yield "pictures", said_by([TOP / "pictures" / "draw.py", "--check"], TOP).rstrip()
+    measured = {tuple(it.split("\t"))[::2] + (it.split("\t")[3],) for it in (TOP / "pictures" / "times.tsv").read_text().splitlines()}
+    for row in TIMES.findall((TOP / "docs" / "SPEED.md").read_text()):
+        yield f"docs/SPEED.md: {' '.join(row)}", "" if row in measured else "IS NO ROW OF pictures/times.tsv"
+
+
 def main():
     """Checks all, and prints what is wrong."""
-    checks = [links, files, definitions, examples, kinds, believed, pages, versions]
+    checks = [links, files, definitions, examples, kinds, believed, pages, versions, pictures]
     if sys.argv[1:] != ["--text"]:
         missing = [it for it in PROGRAMS if not os.access(it, os.X_OK)]
         if missing:

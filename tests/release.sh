@@ -13,6 +13,23 @@ make -s -C "$top" dist
 run cmp "$work/first.tar.gz" "$packed"
 verdict same_bytes_each_time 0
 
+# A build in another folder gives the same programs, but for the section with the version, which make adds. (The older kit keeps nothing, so
+# there it would take as long as the first.)
+if rt version | grep -q 13f; then
+    tar -C "$top" -c --exclude=out build.sh kit.sh HANDLES crates.txt crates | tar -x -C "$work/dir"
+    run "$work/dir/build.sh"
+    : >"$work/got/stderr"
+    verdict builds_elsewhere 0
+    for name in ncdump ncgen nccheck; do
+        objcopy --remove-section .version "$top/bin/$name" "$work/first"
+        objcopy --remove-section .version "$work/dir/bin/$name" "$work/second"
+        run cmp "$work/first" "$work/second"
+        verdict "same_${name}_elsewhere" 0
+    done
+else
+    echo "skipped builds_elsewhere: this kit keeps no proofs"
+fi
+
 # (without the times of its files, as on some shares)
 tar -xmzf "$packed"
 cd "$release" || exit 1
@@ -42,7 +59,8 @@ run env PATH="$work/path" make -s install DESTDIR="$work/one" PREFIX=/usr bindir
 verdict installs_one_program 0
 run find "$work/one" -type f -not -path '*/doc/*' -printf '%P\n'
 sort -o "$work/got/stdout" "$work/got/stdout"
-stdout "$(printf '%s\n' own/bin/nccheck own/man/man1/nccheck.1 own/man/man5/cdl.5 usr/share/bash-completion/completions/nccheck)\n"
+stdout "$(printf '%s\n' own/bin/nccheck own/man/man1/nccheck.1 own/man/man5/cdl.5 usr/share/bash-completion/completions/nccheck \
+    usr/share/fish/vendor_completions.d/nccheck.fish usr/share/zsh/site-functions/_nccheck)\n"
 verdict one_program_in_folders_of_its_own 0
 run env PATH="$work/path" make -s install DESTDIR="$work/none" PROGRAMS='nccheck nccopy'
 grep -v '^make' "$work/got/stderr" >"$work/said" && mv "$work/said" "$work/got/stderr"
@@ -85,6 +103,27 @@ completed() {
     (. "$work/usr/share/bash-completion/completions/$1" && COMP_WORDS=("$@") COMP_CWORD=$(($# - 1)) &&
         "$(complete -p "$1" | sed 's/.*-F \([^ ]*\).*/\1/')" && printf '%s\n' "${COMPREPLY[@]}")
 }
+# other_shells_complete NAME PROGRAM WORDS WANTED: the test NAME of what zsh and fish complete the words after a program to, by the installed
+# completions. A shell that isn't installed is skipped.
+other_shells_complete() {
+    if type -P zsh >/dev/null; then
+        run zsh -f "$top/tests/completed.zsh" "$work/usr/share/zsh/site-functions" "$2 $3"
+        sed -i 's/[ ,]*$//; s/.* //' "$work/got/stdout"
+        stdout "$4\n"
+        verdict "$1_in_zsh" 0
+    else
+        echo "skipped $1_in_zsh: zsh isn't installed"
+    fi
+    if type -P fish >/dev/null; then
+        run fish --no-config -c "source '$work/usr/share/fish/vendor_completions.d/$2.fish'; complete -C '$2 $3'"
+        sed -i 's/\t.*//' "$work/got/stdout"
+        stdout "$4\n"
+        verdict "$1_in_fish" 0
+    else
+        echo "skipped $1_in_fish: fish isn't installed"
+    fi
+}
+
 cd "$work" && mkdir empty && cd empty && touch a.cdl a.nc
 run completed ncgen -k n
 stdout 'nc3\nnc6\nnc5\n'
@@ -107,6 +146,15 @@ verdict kinds_after_a_comma 0
 run completed nccheck -i ''
 sed -n 's/^\.BR \(.*\) " (\(error\|violation\|note\))"$/\1/; T; s/\\//g; p' "$top/man/nccheck.1" >"$work/want/stdout"
 verdict all_kinds_of_the_page_are_completed 0
+other_shells_complete kind ncgen '-bk nc6' nc6
+other_shells_complete level_after_grouped_options nccheck '-qs0l n' note
+other_shells_complete kind_after_a_comma nccheck '-i gap,end' gap,end-padding
+other_shells_complete file ncdump '-h a.n' a.nc
+for file in _nccheck nccheck.fish; do
+    run grep -ow "$(completed nccheck -i '' | paste -sd '|' | sed 's/|/\\|/g')" "$top/completions/$file"
+    completed nccheck -i '' >"$work/want/stdout"
+    verdict "all_kinds_in_$file" 0
+done
 touch ./-k.nc
 run completed ncdump -- -k
 stdout '-k.nc\n'
@@ -128,11 +176,13 @@ verdict installs_under_other_names_alone 0
 run find "$work/usr" -type f -not -path '*/doc/*' -printf '%P\n'
 sort -o "$work/got/stdout" "$work/got/stdout"
 stdout "$(printf '%s\n' bin/juniper-{nccheck,ncdump,ncgen} share/bash-completion/completions/juniper-{nccheck,ncdump,ncgen} \
-    share/man/man1/juniper-{nccheck,ncdump,ncgen}.1 share/man/man5/juniper-cdl.5)\n"
+    share/fish/vendor_completions.d/juniper-{nccheck,ncdump,ncgen}.fish share/man/man1/juniper-{nccheck,ncdump,ncgen}.1 \
+    share/man/man5/juniper-cdl.5 share/zsh/site-functions/_juniper-{nccheck,ncdump,ncgen})\n"
 verdict other_names 0
 run completed juniper-ncgen -k nc5
 stdout 'nc5\n'
 verdict other_names_are_completed 0
+other_shells_complete other_names juniper-ncgen '-bk nc6' nc6
 
 # bare PAGE..: where a NAME, a SYNOPSIS, a SEE ALSO or a command of pages has a program or a page without the prefix
 bare() {
