@@ -1,8 +1,8 @@
 # Completes the command line of nccheck in fish: its options, levels, kinds (also after a comma), and files.
 set -l kinds hdf5 gzip not-netcdf empty-file unknown-version header-truncated bad-tag bad-count bad-name bad-type bad-shape \
     two-record-dims too-large bad-offset missing begin-in-header overlap record-place unpadded order after-records \
-    large-variable trailing name-characters large-count duplicate-name fill-value not-nfc padding long-name high-rank \
-    floating-type streaming unused-records empty-list empty-attribute trailing-nul vsize gap end-padding
+    large-variable trailing name-characters large-count streaming duplicate-name fill-value not-nfc padding long-name high-rank vsize \
+    floating-type unused-records empty-list empty-attribute trailing-nul odd-vsize gap end-padding
 complete -c nccheck -s q -d 'print no lines of findings'
 complete -c nccheck -s s -d 'count the files in a last line'
 complete -c nccheck -s 0 -d 'read paths from standard input, each ended by a NUL'

@@ -78,7 +78,7 @@ fault_message l e fault.TooLarge = says [] []
 abbrev pub layout_message : LayoutFact → Message
 layout_message (layout.Streaming n) = says (codes ": found the streaming mark, for _") (Number n ∷ [])
 layout_message (layout.UnusedRecords n) = says (codes ": found _, expected 0") (Number n ∷ [])
-layout_message (layout.LargeVariable n limit) = says (codes ": found _, expected at most _") (Number n ∷ Number limit ∷ [])
+layout_message (layout.LargeVariable var n limit) = says (codes ": found a slab of _ bytes, expected at most _") (Number n ∷ Number limit ∷ [])
 layout_message (layout.BeginInHeader n end) =
     says (codes ": found _, expected at least _, the end of the header") (Number n ∷ Number end ∷ [])
 layout_message (layout.Overlap n end of) =
@@ -129,6 +129,7 @@ field_message l e (fact.FillType code) = says (codes ": found _, expected _, the
 field_message l e fact.FillCount = says (codes ": found _, expected 1") (FieldContent ∷ [])
 field_message l e fact.HighRank = says (codes ": found _, expected at most _") (FieldContent ∷ Number highest_rank ∷ [])
 field_message l e (fact.Vsize size) = says (codes ": found _, expected _") (FieldContent ∷ Number size ∷ [])
+field_message l e (fact.OddVsize size) = says (codes ": found _, expected _") (FieldContent ∷ Number size ∷ [])
 field_message l e (fact.Layout x) = layout_message x
 
 -- of a fact at a field, or, without a field, of one in the data

@@ -11,12 +11,14 @@ use Rattle.nc_findings.specs.Kinds.{kind_of, severity_of}
 use Rattle.nc_findings.specs.declared.finding.Fact.TheVariants as fact
 use Rattle.nc_findings.specs.declared.kind.Severity.TheVariants.{Error, Violation, Note}
 use Rattle.check_lines.specs.Details.{details}
-use Rattle.check_lines.specs.Paths.{KnownNames, field_path, names_after, no_names, slab_path}
+use Rattle.check_lines.specs.Paths.{KnownNames, field_path, names_after, no_names, slab_path, var_path}
 use Rattle.check_lines.specs.Shown.{shown_path}
 use Rattle.check_lines.specs.Words.{each_of, kind_word, severity_word}
 
--- at a field, with the names that are known there, or in the data: at a slab that isn't whole, or anywhere
+-- at a variable whose slab is too large, or at a field, with the names that are known there, or in the data: at a slab that isn't whole, or
+-- anywhere
 unfoldable pub path : Listing → KnownNames → Option Entry → Fact → Bytes
+path l names (Some e) (fact.Layout (layout.LargeVariable var n limit)) = var_path l.header var
 path l names (Some e) x = field_path names e.place
 path l names None (fact.Layout (layout.Missing n end of)) = slab_path l.header of
 path l names None x = codes "data"

@@ -2,7 +2,7 @@
 use Rattle.std.specs.Prelude.{List, codes, map}
 use Rattle.nc_types.specs.Bytes.{Bytes, concat_parts}
 use Rattle.nc_findings.specs.declared.{kind.Kind.Kind, kind.Severity.Severity}
-use Rattle.nc_findings.specs.declared.kind.Kind.TheVariants.{NotNetcdf, Hdf5, Gzip, EmptyFile, UnknownVersion, HeaderTruncated, BadTag, BadCount, BadName, NameCharacters, FloatingType, BadType, BadShape, TwoRecordDims, TooLarge, BadOffset, LargeCount, Streaming, UnusedRecords, EmptyList, LongName, DuplicateName, NotNfc, Padding, EmptyAttribute, TrailingNul, FillValue, HighRank, Vsize, LargeVariable, BeginInHeader, Overlap, Unpadded, Order, AfterRecords, RecordPlace, Gap, Missing, EndPadding, Trailing}
+use Rattle.nc_findings.specs.declared.kind.Kind.TheVariants.{NotNetcdf, Hdf5, Gzip, EmptyFile, UnknownVersion, HeaderTruncated, BadTag, BadCount, BadName, NameCharacters, FloatingType, BadType, BadShape, TwoRecordDims, TooLarge, BadOffset, LargeCount, Streaming, UnusedRecords, EmptyList, LongName, DuplicateName, NotNfc, Padding, EmptyAttribute, TrailingNul, FillValue, HighRank, Vsize, OddVsize, LargeVariable, BeginInHeader, Overlap, Unpadded, Order, AfterRecords, RecordPlace, Gap, Missing, EndPadding, Trailing}
 use Rattle.nc_findings.specs.declared.kind.Severity.TheVariants.{Error, Violation, Note}
 
 unfoldable pub severity_word : Severity → Bytes
@@ -40,6 +40,7 @@ kind_word TrailingNul = codes "trailing-nul"
 kind_word FillValue = codes "fill-value"
 kind_word HighRank = codes "high-rank"
 kind_word Vsize = codes "vsize"
+kind_word OddVsize = codes "odd-vsize"
 kind_word LargeVariable = codes "large-variable"
 kind_word BeginInHeader = codes "begin-in-header"
 kind_word Overlap = codes "overlap"

@@ -74,7 +74,7 @@ fn field_message(listing: &Listing, entry: &Entry, fact: Fact) -> Message
             ": found _, expected at most _",
             [FieldContent, Number(HIGHEST_RANK), Nothing],
         ),
-        Fact::Vsize { expected } => (
+        Fact::Vsize { expected } | Fact::OddVsize { expected } => (
             ": found _, expected _",
             [FieldContent, Number(expected), Nothing],
         ),

@@ -21,8 +21,8 @@ pub(crate) fn layout_message(fact: LayoutFact) -> Message
         LayoutFact::UnusedRecords { records } => {
             (": found _, expected 0", [Number(records), Nothing, Nothing])
         }
-        LayoutFact::LargeVariable { bytes, limit } => (
-            ": found _, expected at most _",
+        LayoutFact::LargeVariable { bytes, limit, .. } => (
+            ": found a slab of _ bytes, expected at most _",
             [Number(bytes), Number(limit), Nothing],
         ),
         LayoutFact::BeginInHeader { begin, header_end } => (

@@ -6,7 +6,7 @@ ghost use Rattle.check_lines.specs.Lines.{entry_of, kind_text, line_with, path, 
 ghost use Rattle.check_lines.specs.code.Names.{entry_in, known};
 
 use crate::details::put_details;
-use crate::field_path::{put_field_path, put_slab_path};
+use crate::field_path::{put_field_path, put_slab_path, put_var_path};
 use crate::known_names::Names;
 use crate::shown::put_file_path;
 use crate::words::{kind_word, severity_word};
@@ -65,9 +65,9 @@ fn entry_of<'a>(listing: &'a Listing, finding: &Finding) -> Option<&'a Entry>
     listing.entries.as_slice().get(i as usize)
 }
 
-/// Writes where a finding lies: the path of its field `entry`, in which `names` are the known names. With `None`, the finding lies in the
-/// data. Then it writes the path of the first slab that isn't whole, if `fact` is that the file ends before its values do, otherwise
-/// `data`. Errs if the sink fails.
+/// Writes where a finding lies: the path of its field `entry`, in which `names` are the known names, or of the variable whose slab is too
+/// large, if `fact` says so. With `None`, the finding lies in the data. Then it writes the path of the first slab that isn't whole, if
+/// `fact` is that the file ends before its values do, otherwise `data`. Errs if the sink fails.
 #[tactic(auto, unfolding(crate::specs::Lines::path))]
 fn put_finding_path<W: Sink>(
     sink: &mut W,
@@ -80,6 +80,9 @@ fn put_finding_path<W: Sink>(
         (path listing.now (known names.entry) (entry_in entry.entry) fact) result }
 {
     match (entry, fact) {
+        (Some(_), Fact::Layout(LayoutFact::LargeVariable { var, .. })) => {
+            put_var_path(sink, &listing.header, var)
+        }
         (Some(entry), _) => put_field_path(sink, names, entry.place),
         (None, Fact::Layout(LayoutFact::Missing { slab, .. })) => {
             put_slab_path(sink, &listing.header, slab)

@@ -52,6 +52,7 @@ pub fn kind_word(kind: Kind) -> &'static str
         Kind::FillValue => "fill-value",
         Kind::HighRank => "high-rank",
         Kind::Vsize => "vsize",
+        Kind::OddVsize => "odd-vsize",
         Kind::LargeVariable => "large-variable",
         Kind::BeginInHeader => "begin-in-header",
         Kind::Overlap => "overlap",

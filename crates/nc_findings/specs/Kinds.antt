@@ -5,7 +5,7 @@ use Rattle.nc_findings.specs.declared.layout_fact.LayoutFact.{LayoutFact}
 use Rattle.nc_findings.specs.declared.layout_fact.LayoutFact.TheVariants as layout
 use Rattle.nc_findings.specs.declared.{finding.Fact.Fact, kind.Kind.Kind, kind.Severity.Severity}
 use Rattle.nc_findings.specs.declared.finding.Fact.TheVariants as fact
-use Rattle.nc_findings.specs.declared.kind.Kind.TheVariants.{NotNetcdf, Hdf5, Gzip, EmptyFile, UnknownVersion, HeaderTruncated, BadTag, BadCount, BadName, NameCharacters, FloatingType, BadType, BadShape, TwoRecordDims, TooLarge, BadOffset, LargeCount, Streaming, UnusedRecords, EmptyList, LongName, DuplicateName, NotNfc, Padding, EmptyAttribute, TrailingNul, FillValue, HighRank, Vsize, LargeVariable, BeginInHeader, Overlap, Unpadded, Order, AfterRecords, RecordPlace, Gap, Missing, EndPadding, Trailing}
+use Rattle.nc_findings.specs.declared.kind.Kind.TheVariants.{NotNetcdf, Hdf5, Gzip, EmptyFile, UnknownVersion, HeaderTruncated, BadTag, BadCount, BadName, NameCharacters, FloatingType, BadType, BadShape, TwoRecordDims, TooLarge, BadOffset, LargeCount, Streaming, UnusedRecords, EmptyList, LongName, DuplicateName, NotNfc, Padding, EmptyAttribute, TrailingNul, FillValue, HighRank, Vsize, OddVsize, LargeVariable, BeginInHeader, Overlap, Unpadded, Order, AfterRecords, RecordPlace, Gap, Missing, EndPadding, Trailing}
 use Rattle.nc_findings.specs.declared.kind.Severity.TheVariants.{Error, Violation, Note}
 
 -- ---- of facts
@@ -27,7 +27,7 @@ kind_of_fault fault.TooLarge = TooLarge
 abbrev pub kind_of_layout : LayoutFact → Kind
 kind_of_layout (layout.Streaming n) = Streaming
 kind_of_layout (layout.UnusedRecords n) = UnusedRecords
-kind_of_layout (layout.LargeVariable n limit) = LargeVariable
+kind_of_layout (layout.LargeVariable var n limit) = LargeVariable
 kind_of_layout (layout.BeginInHeader begin end) = BeginInHeader
 kind_of_layout (layout.Overlap begin end of) = Overlap
 kind_of_layout (layout.Unpadded begin end of) = Unpadded
@@ -57,6 +57,7 @@ kind_of (fact.FillType code) = FillValue
 kind_of fact.FillCount = FillValue
 kind_of fact.HighRank = HighRank
 kind_of (fact.Vsize size) = Vsize
+kind_of (fact.OddVsize size) = OddVsize
 kind_of (fact.Layout fact) = kind_of_layout fact
 
 -- ---- of kinds
@@ -66,21 +67,22 @@ kind_of (fact.Layout fact) = kind_of_layout fact
 -- refuses to open it.
 abbrev pub severity_of : Kind → Severity
 severity_of FloatingType = Note
-severity_of Streaming = Note
 severity_of UnusedRecords = Note
 severity_of EmptyList = Note
 severity_of EmptyAttribute = Note
 severity_of TrailingNul = Note
-severity_of Vsize = Note
+severity_of OddVsize = Note
 severity_of Gap = Note
 severity_of EndPadding = Note
 severity_of NameCharacters = Violation
 severity_of LargeCount = Violation
+severity_of Streaming = Violation
 severity_of LongName = Violation
 severity_of DuplicateName = Violation
 severity_of NotNfc = Violation
 severity_of Padding = Violation
 severity_of FillValue = Violation
 severity_of HighRank = Violation
+severity_of Vsize = Violation
 severity_of Trailing = Violation
 severity_of kind = Error

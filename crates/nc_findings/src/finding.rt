@@ -45,9 +45,14 @@ pub enum Fact {
     FillCount,
     /// A variable has more dimensions than netCDF-C takes ([`HIGHEST_RANK`](crate::HIGHEST_RANK)).
     HighRank,
-    /// The size of a variable isn't that of its padded slab.
+    /// The size of a variable contradicts its type and shape.
     Vsize {
         /// The size that belongs there.
+        expected: u64,
+    },
+    /// The size of a variable is that of its slab without padding, or 0, or any number if that of the padded slab doesn't fit the field.
+    OddVsize {
+        /// The size that is written there.
         expected: u64,
     },
     /// Something about the layout of the file.

@@ -77,8 +77,10 @@ pub enum Kind {
     FillValue,
     /// A variable has more dimensions than netCDF-C takes.
     HighRank,
-    /// The size of a variable isn't that of its padded slab.
+    /// The size of a variable contradicts its type and shape.
     Vsize,
+    /// The size of a variable isn't the one that is written, but other programs write it so.
+    OddVsize,
     /// A slab is greater than the version allows for a variable that isn't the last.
     LargeVariable,
     /// A variable begins inside of the header.
@@ -110,22 +112,23 @@ impl Kind {
     {
         match self {
             Kind::FloatingType
-            | Kind::Streaming
             | Kind::UnusedRecords
             | Kind::EmptyList
             | Kind::EmptyAttribute
             | Kind::TrailingNul
-            | Kind::Vsize
+            | Kind::OddVsize
             | Kind::Gap
             | Kind::EndPadding => Severity::Note,
             Kind::NameCharacters
             | Kind::LargeCount
+            | Kind::Streaming
             | Kind::LongName
             | Kind::DuplicateName
             | Kind::NotNfc
             | Kind::Padding
             | Kind::FillValue
             | Kind::HighRank
+            | Kind::Vsize
             | Kind::Trailing => Severity::Violation,
             _ => Severity::Error,
         }
@@ -155,6 +158,7 @@ impl Fact {
             Fact::FillCount => Kind::FillValue,
             Fact::HighRank => Kind::HighRank,
             Fact::Vsize { .. } => Kind::Vsize,
+            Fact::OddVsize { .. } => Kind::OddVsize,
             Fact::Layout(fact) => kind_of_layout(fact),
         }
     }

@@ -51,6 +51,8 @@ pub enum LayoutFact {
     },
     /// The slab is greater than the version allows for a variable that isn't the last.
     LargeVariable {
+        /// The index of the variable.
+        var: u64,
         /// The bytes of the slab.
         bytes: u64,
         /// The greatest number of bytes that the version allows here.

@@ -32,7 +32,7 @@ has_successor slots i slot =
 -- the slab is too great for a variable that isn't the last
 abbrev pub large_variable : Version → Bool → ℕ → Slot → Option LayoutFinding
 large_variable version is_followed i slot =
-    option_and_then (λ limit. finding_if (nat_lt limit slot.slab && is_followed) (places.Vsize i) (facts.LargeVariable slot.slab limit))
+    option_and_then (λ limit. finding_if (nat_lt limit slot.slab && is_followed) (places.Vsize i) (facts.LargeVariable i slot.slab limit))
     (large_limit version)
 
 -- ---- begin

@@ -156,6 +156,7 @@ fn large_variable(version: Version, is_followed: bool, i: u64, slot: Slot) -> Op
         slot.slab > limit && is_followed,
         LayoutPlace::Vsize(i),
         LayoutFact::LargeVariable {
+            var: i,
             bytes: slot.slab,
             limit,
         },

@@ -1,5 +1,5 @@
 -- Findings at fields that are kept as numbers.
-use Rattle.nc_rules.proofs.Prelude.{IsPermutation, IsPermutation-map, IsPermutation-append, IsPermutation-refl, option_map, option_to_list, Version, append-nil, Header, FormatFault, Listing, Entry, Slot, FileLayout, LayoutFinding, padded_slab_len, each_slot, layout_findings, IsSoundLayout, layout_of, Fact, Finding, NumberField, NumberFields, Indexed, indexed, vsize_findings, whole_findings, is_vsize, named, vsize_finding, found_at, located, number_field, HoldsNumbers, found_at_number, located_number, vsize_fact, vsize_facts, ◌≡◌, ℕ, ◌+◌, List, [], ◌∷◌, ◌++◌, map, slice_get, Option, Some, Result, Ok, Err, OnOk, SomeIff, append_assoc, arith, refl, sym, ap, ap₂, subst, ◌∙◌}
+use Rattle.nc_rules.proofs.Prelude.{IsPermutation, IsPermutation-map, IsPermutation-append, IsPermutation-refl, option_map, option_to_list, Version, append-nil, Header, FormatFault, Listing, Entry, Slot, FileLayout, LayoutFinding, each_slot, layout_findings, IsSoundLayout, layout_of, Fact, Finding, NumberField, NumberFields, Indexed, indexed, vsize_findings, whole_findings, is_vsize, named, vsize_finding, found_at, located, number_field, HoldsNumbers, found_at_number, located_number, vsize_finding_at, vsize_findings_at, ◌≡◌, ℕ, ◌+◌, List, [], ◌∷◌, ◌++◌, map, slice_get, Option, Some, Result, Ok, Err, OnOk, SomeIff, append_assoc, arith, refl, sym, ap, ap₂, subst, ◌∙◌}
 use Rattle.std.proofs.lemmas.Option.{slice_get-map}
 
 -- at a field in this place of a list
@@ -9,18 +9,18 @@ placed fs i what = grind (arith, slice_get-map)
 pub located-numbers : (fields : List Indexed) (ns : NumberFields) (l : LayoutFinding) → HoldsNumbers fields ns → located_number ns l ≡ located fields l
 located-numbers fields ns l h = grind (arith, placed, h.numrecs, h.vsizes, h.begins)
 
-sized : (v : Version) (padded : ℕ) (o : Option Indexed) → vsize_fact v padded (option_map number_field o) ≡ vsize_finding v padded o
-sized v padded o = grind arith
+sized : (v : Version) (slot : Slot) (o : Option Indexed) → vsize_finding_at v slot (option_map number_field o) ≡ vsize_finding v slot o
+sized v slot o = grind arith
 
 sizes : (v : Version) (fs : List Indexed) (i : ℕ) (slots : List Slot)
-    → each_slot (λ i slot. option_to_list (vsize_fact v (padded_slab_len slot) (slice_get (map number_field fs) i))) i slots ≡ each_slot (λ i slot. option_to_list (vsize_finding v (padded_slab_len slot) (slice_get fs i))) i slots
+    → each_slot (λ i slot. option_to_list (vsize_finding_at v slot (slice_get (map number_field fs) i))) i slots ≡ each_slot (λ i slot. option_to_list (vsize_finding v slot (slice_get fs i))) i slots
 sizes v fs i [] = refl
 sizes v fs i (slot ∷ slots) = grind (arith, slice_get-map, sized, sizes v fs (i + 1) slots)
 
-pub vsizes-numbers : (fields : List Indexed) (ns : NumberFields) (layout : FileLayout) → HoldsNumbers fields ns → vsize_facts layout ns.vsizes ≡ vsize_findings layout fields
+pub vsizes-numbers : (fields : List Indexed) (ns : NumberFields) (layout : FileLayout) → HoldsNumbers fields ns → vsize_findings_at layout ns.vsizes ≡ vsize_findings layout fields
 unfolding vsize_findings
 vsizes-numbers fields ns layout h =
-    ap (λ (xs : List NumberField). vsize_facts layout xs) h.vsizes ∙ sizes layout.version (named is_vsize fields) 0 layout.slots
+    ap (λ (xs : List NumberField). vsize_findings_at layout xs) h.vsizes ∙ sizes layout.version (named is_vsize fields) 0 layout.slots
 
 map-same : {A B : Type 0} (f g : A → B) (xs : List A) → ((x : A) → f x ≡ g x) → map f xs ≡ map g xs
 map-same f g [] same = refl

@@ -20,7 +20,7 @@ pub use Rattle.nc_rules.specs.WholeHeader.{found_at, is_begin, is_numrecs, is_vs
 unfoldable pub use Rattle.nc_rules.specs.WholeHeader.{vsize_findings, whole_findings}
 pub use Rattle.nc_rules.specs.code.FirstNames.{HasFirst, hash, index_if, index_of, is_first_of, is_key_of}
 pub use Rattle.nc_rules.specs.code.Passes.{ahead_with, each_backward}
-pub use Rattle.nc_rules.specs.code.WholeHeaders.{HoldsNumbers, found_at_number, located_number, number_field, vsize_fact, vsize_facts}
+pub use Rattle.nc_rules.specs.code.WholeHeaders.{HoldsNumbers, found_at_number, located_number, number_field, vsize_finding_at, vsize_findings_at}
 pub use Rattle.nc_rules.specs.declared.{ahead.Ahead.Ahead, ahead.NumberField.NumberField, names.FirstNames.FirstNames, names.NameScope.NameScope, number_fields.NumberFields.NumberFields}
 pub use Rattle.std.proofs.Common.{Bool, Bor, Err, IsTrue, List, None, Ok, OnOk, Option, Result, Some, SomeIff, [], ap, append_assoc, ap₂, arith, cond, drop, false, get_or, if◌then◌else◌, length, map, not, refl, rules, slice_get, subst, suc, sym, take, true, zero, ℕ, ◌&&◌, ◌++◌, ◌+◌, ◌-◌, ◌<◌, ◌==◌, ◌^◌, ◌↔◌, ◌∙◌, ◌∷◌, ◌≡◌, ◌≤◌}
 pub use Rattle.std.proofs.lemmas.Bool.{false_from_ne_true}

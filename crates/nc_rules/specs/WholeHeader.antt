@@ -1,12 +1,12 @@
 -- Definition. Findings that need a whole header: the sizes of its variables, and the layout of the file.
-use Rattle.std.specs.Prelude.{ℕ, ◌==◌, Bool, true, false, if◌then◌else◌, List, [], ◌++◌, filter, map, slice_get, Option, Some, None, Ok, Err}
+use Rattle.std.specs.Prelude.{ℕ, ◌==◌, ◌||◌, Bool, true, false, not, if◌then◌else◌, List, [], ◌++◌, filter, map, slice_get, Option, Some, None, option_map, Ok, Err}
 use Rattle.std.specs.Option.{option_to_list}
 use Rattle.nc_types.specs.declared.{version.Version.Version}
 use Rattle.nc_types.specs.Versions.{vsize_of}
 use Rattle.nc_findings.specs.declared.{listing.Listing.Listing, place.FieldKind.FieldKind, layout_fact.LayoutFinding.LayoutFinding, finding.Fact.Fact, finding.Finding.Finding}
 use Rattle.nc_findings.specs.declared.place.FieldKind.TheVariants as field
 use Rattle.nc_findings.specs.Contents.{number_of}
-use Rattle.nc_layout.specs.declared.{slot.FileLayout.FileLayout}
+use Rattle.nc_layout.specs.declared.{slot.FileLayout.FileLayout, slot.Slot.Slot}
 use Rattle.nc_findings.specs.declared.layout_fact.LayoutPlace.TheVariants as places
 use Rattle.nc_layout.specs.Slots.{padded_slab_len}
 use Rattle.nc_layout.specs.Blocks.{each_slot}
@@ -35,14 +35,22 @@ named test fields = filter (λ (f : Indexed). test f.entry.place.field) fields
 
 -- ---- sizes
 
--- the size of a variable isn't what is written for a padded slab of this size (`vsize`; a whole header has the field)
-abbrev pub vsize_finding : Version → ℕ → Option Indexed → Option Finding
-vsize_finding v padded None = None
-vsize_finding v padded (Some f) =
-    let expected = vsize_of v padded in if number_of f.entry.content == expected then None else Some (finding f (fact.Vsize expected))
+-- What is wrong or odd about this size of a variable (`vsize`), if it isn't the one that is written: odd is that of the slab without padding,
+-- 0, and any if the padded slab doesn't fit the field. Any other contradicts the variable's type and shape.
+abbrev pub vsize_fact : Version → Slot → ℕ → Option Fact
+vsize_fact v slot found =
+    let expected = vsize_of v (padded_slab_len slot) in
+    if found == expected then None
+    else if (found == slot.slab) || (found == 0) || not (expected == padded_slab_len slot) then Some (fact.OddVsize expected)
+    else Some (fact.Vsize expected)
+
+-- at its field, which a whole header has
+abbrev pub vsize_finding : Version → Slot → Option Indexed → Option Finding
+vsize_finding v slot None = None
+vsize_finding v slot (Some f) = option_map (finding f) (vsize_fact v slot (number_of f.entry.content))
 
 unfoldable pub vsize_findings : FileLayout → List Indexed → List Finding
-vsize_findings layout fields = each_slot (λ i slot. option_to_list (vsize_finding layout.version (padded_slab_len slot) (slice_get (named is_vsize fields) i))) 0 layout.slots
+vsize_findings layout fields = each_slot (λ i slot. option_to_list (vsize_finding layout.version slot (slice_get (named is_vsize fields) i))) 0 layout.slots
 
 -- ---- the layout
 

@@ -1,16 +1,16 @@
 //! Findings that need a whole header.
 
-ghost use Rattle.std.specs.Prelude.{◌≡◌, ◌++◌, map, slice_get, OnOk, IsPermutation};
+ghost use Rattle.std.specs.Prelude.{◌≡◌, ◌++◌, ◌<◌, ◌^◌, map, slice_get, OnOk, IsPermutation};
 ghost use Rattle.nc_layout.specs.Findings.{IsSoundLayout, layout_findings};
-ghost use Rattle.nc_rules.specs.WholeHeader.{whole_findings};
-ghost use Rattle.nc_rules.specs.code.WholeHeaders.{HasSoundLayout, found_at_number, located_number, vsize_fact, vsize_facts};
+ghost use Rattle.nc_rules.specs.WholeHeader.{vsize_fact, whole_findings};
+ghost use Rattle.nc_rules.specs.code.WholeHeaders.{HasSoundLayout, found_at_number, located_number, vsize_finding_at, vsize_findings_at};
 
 use crate::ahead::NumberField;
 use crate::finding::{finding_at, push_some};
 use crate::number_fields::{NumberFields, number_fields};
 use nc_base::{Sequence, Version};
 use nc_findings::{Fact, Finding, LayoutFinding, LayoutPlace, Listing};
-use nc_layout::{FileLayout, layout_findings, padded_slab_len, sound_layout};
+use nc_layout::{FileLayout, Slot, layout_findings, padded_slab_len, sound_layout};
 use std::alloc::{AllocError, Global};
 
 /// If the header is whole (no field is wrong), appends the findings about the sizes of variables (`vsize`) and the layout of the file, in
@@ -34,7 +34,7 @@ pub(crate) fn push_whole_findings(
     Ok(())
 }
 
-/// Appends a finding at each field `vsize` that hasn't the number that is written for the variable's padded slab. `vsizes` are these
+/// Appends a finding at each field `vsize` that hasn't the number that is written for the variable ([`vsize_fact`]). `vsizes` are these
 /// fields, in the order of the header. Needs a sound layout (within the limits). Errs only if an allocation fails.
 fn push_vsize_findings(
     found: &mut Sequence<Finding>,
@@ -42,30 +42,43 @@ fn push_vsize_findings(
     vsizes: &Sequence<NumberField>,
 ) -> Result<(), AllocError>
     requires { IsSoundLayout layout.now }
-    ensures { OnOk result (found.new ≡ found.old ++ vsize_facts layout.now vsizes.now) }
+    ensures { OnOk result (found.new ≡ found.old ++ vsize_findings_at layout.now vsizes.now) }
 {
     let slots = layout.slots.as_slice();
     for (i, slot) in slots.iter().enumerate() {
         let vsize = field_at(vsizes, i as u64);
-        push_some(
-            found,
-            vsize_finding(layout.version, padded_slab_len(*slot), vsize),
-        )?;
+        push_some(found, vsize_finding(layout.version, *slot, vsize))?;
     }
     Ok(())
 }
 
-/// Returns the finding that the field `vsize` of a variable hasn't the number that the version writes for a padded slab of `padded` bytes,
-/// or `None` if it has, or if the field is `None`.
-fn vsize_finding(version: Version, padded: u64, vsize: Option<NumberField>) -> Option<Finding>
-    ensures { result ≡ vsize_fact version padded vsize }
+/// Returns the finding at the field `vsize` of the variable of `slot` ([`vsize_fact`]), or `None` if there is none, or if the field is
+/// `None`.
+fn vsize_finding(version: Version, slot: Slot, vsize: Option<NumberField>) -> Option<Finding>
+    requires { slot.slab < 2 ^ 63 }
+    ensures { result ≡ vsize_finding_at version slot vsize }
 {
     let field = vsize?;
+    let fact = vsize_fact(version, slot, field.number)?;
+    Some(finding_at(field.index, field.offset, fact))
+}
+
+/// Returns what is wrong or odd about `found` as the size of the variable of `slot`, or `None` if it is what the version writes: the bytes
+/// of the padded slab, or 2^32 - 1 if these don't fit the field. It is odd if `found` is the bytes of the slab without padding or 0, or if
+/// the padded slab doesn't fit the field; otherwise `found` contradicts the variable's type and shape.
+fn vsize_fact(version: Version, slot: Slot, found: u64) -> Option<Fact>
+    requires { slot.slab < 2 ^ 63 }
+    ensures { result ≡ vsize_fact version slot found }
+{
+    let padded = padded_slab_len(slot);
     let expected = version.vsize_of(padded);
-    if field.number == expected {
-        return None;
+    if found == expected {
+        None
+    } else if found == slot.slab || found == 0 || expected != padded {
+        Some(Fact::OddVsize { expected })
+    } else {
+        Some(Fact::Vsize { expected })
     }
-    Some(finding_at(field.index, field.offset, Fact::Vsize { expected }))
 }
 
 /// Appends all findings about the layout, each at the field of the header that it is about (`fields`) or at an offset in the data, in no

@@ -21,7 +21,7 @@ info_in [] = None
 info_in (name ∷ words) = info_among words
 
 unfoldable pub version_line : Bytes
-version_line = codes "nccheck 0.3.2\n"
+version_line = codes "nccheck 0.3.3\n"
 
 -- a line for each option
 unfoldable pub option_lines : Bytes

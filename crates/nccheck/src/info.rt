@@ -69,7 +69,7 @@ pub(crate) fn put_info<W: Sink>(sink: &mut W, info: Info) -> Result<(), WriteFai
 fn version_line() -> &'static [u8]
     ensures { result.now ≡ version_line }
 {
-    b"nccheck 0.3.2\n"
+    b"nccheck 0.3.3\n"
 }
 
 /// Returns the lines that say what each option does.

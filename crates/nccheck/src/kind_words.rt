@@ -37,6 +37,7 @@ pub(crate) const KINDS: &[Kind] = &[
     Kind::FillValue,
     Kind::HighRank,
     Kind::Vsize,
+    Kind::OddVsize,
     Kind::LargeVariable,
     Kind::BeginInHeader,
     Kind::Overlap,

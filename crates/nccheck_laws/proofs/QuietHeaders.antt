@@ -63,25 +63,25 @@ sizes-sized h k (f ∷ fs) at = by-test (is_vsize_at f.steps) refl at (λ k at. 
 
 -- ---- what is found at them
 
-size-found : (v : Version) (padded : ℕ) (g : Indexed)
-    → any_spelling (option_to_list (vsize_finding v padded (Some g))) ≡ false ↔ (entry_number g ≡ vsize_of v padded)
-size-found v padded g = (λ quiet. grind (arith, nat_tests), λ is. grind (arith, nat_tests))
+size-found : (v : Version) (x : Slot) (g : Indexed)
+    → any_spelling (option_to_list (vsize_finding v x (Some g))) ≡ false ↔ (entry_number g ≡ vsize_of v (padded_slab_len x))
+size-found v x g = (λ quiet. grind (arith, nat_tests), λ is. grind (arith, nat_tests))
 
 -- what is found at the size of the variable of this slot
 abbrev found_at : Version → List Indexed → ℕ → Slot → List Finding
-found_at v gs i slot = option_to_list (vsize_finding v (padded_slab_len slot) (slice_get gs i))
+found_at v gs i slot = option_to_list (vsize_finding v slot (slice_get gs i))
 
 -- the variable of a slot, and the field of its size
 slot-size : (h : Header) (gs : List Indexed) (i : ℕ) (x : Slot) (o : Option Indexed) (p : Option Var) → slice_get h.vars i ≡ p
     → At (map (slot_of h.dims) h.vars) i x
-    → any_spelling (option_to_list (vsize_finding h.version (padded_slab_len x) o)) ≡ false
+    → any_spelling (option_to_list (vsize_finding h.version x o)) ≡ false
     ↔ ((n : ℕ) → option_map entry_number o ≡ Some n → IsWrittenVsize h i n)
 slot-size h gs i x None p is at = (λ quiet n there. absurd cc, λ each. refl)
 slot-size h gs i x (Some g) p is at =
     let there = sym at ∙ slice_get-map (slot_of h.dims) h.vars i ∙ ap (option_map (slot_of h.dims)) is in by-var p is there
   where
     by-var : (p : Option Var) → slice_get h.vars i ≡ p → Some x ≡ option_map (slot_of h.dims) p
-        → any_spelling (option_to_list (vsize_finding h.version (padded_slab_len x) (Some g))) ≡ false
+        → any_spelling (option_to_list (vsize_finding h.version x (Some g))) ≡ false
         ↔ ((n : ℕ) → Some (entry_number g) ≡ Some n → IsWrittenVsize h i n)
     by-var None is there = absurd cc
     by-var (Some var) is there =
@@ -89,8 +89,8 @@ slot-size h gs i x (Some g) p is at =
         rw (slot, is) (
           λ quiet n same. let number : entry_number g ≡ n = cc in
               subst (λ n. n ≡ vsize_of h.version (padded_size h.dims var)) number
-              ((size-found h.version (padded_size h.dims var) g).0 quiet),
-          λ each. (size-found h.version (padded_size h.dims var) g).1 (each (entry_number g) refl),
+              ((size-found h.version (slot_of h.dims var) g).0 quiet),
+          λ each. (size-found h.version (slot_of h.dims var) g).1 (each (entry_number g) refl),
         )
 
 sizes-found : (h : Header) (end file_len : ℕ) (gs : List Indexed) (ns : List ℕ) → map entry_number (named is_vsize gs) ≡ ns

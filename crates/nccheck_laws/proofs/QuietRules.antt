@@ -50,13 +50,13 @@ plain-attributes fs = attributes-from fs fs
 
 -- ---- a whole header
 
-plain-vsize : (v : Version) (padded : ℕ) (o : Option Indexed) → ArePlain (option_to_list (vsize_finding v padded o))
-plain-vsize v padded o = grind arith
+plain-vsize : (v : Version) (x : Slot) (o : Option Indexed) → ArePlain (option_to_list (vsize_finding v x o))
+plain-vsize v x o = grind arith
 
 pub plain-vsizes : (layout : FileLayout) (fs : List Indexed) → ArePlain (vsize_findings layout fs)
 unfolding vsize_findings
 plain-vsizes layout fs =
-    each-quiet _ _ 0 layout.slots (λ k m x at is. plain-vsize layout.version (padded_slab_len x) (slice_get (named is_vsize fs) m))
+    each-quiet _ _ 0 layout.slots (λ k m x at is. plain-vsize layout.version x (slice_get (named is_vsize fs) m))
 
 -- ---- faults
 

@@ -54,6 +54,7 @@ same-fact (fact.FillType i) (fact.FillType k) e = ap fact.FillType (number i k e
 same-fact fact.FillCount fact.FillCount e = refl
 same-fact fact.HighRank fact.HighRank e = refl
 same-fact (fact.Vsize i) (fact.Vsize k) e = ap fact.Vsize (number i k e)
+same-fact (fact.OddVsize i) (fact.OddVsize k) e = ap fact.OddVsize (number i k e)
 same-fact (fact.Layout a) (fact.Layout b) e = ap fact.Layout (same-layout a b e)
 same-fact a b e = apart (facts.ghosts.cmp a b) refl e
 

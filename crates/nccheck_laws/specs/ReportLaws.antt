@@ -41,6 +41,7 @@ is_of_spelling (fact.FillType code) = false
 is_of_spelling fact.FillCount = false
 is_of_spelling fact.HighRank = false
 is_of_spelling (fact.Vsize expected) = true
+is_of_spelling (fact.OddVsize expected) = true
 is_of_spelling (fact.Layout fact) = false
 
 -- one of the findings is a fact of this kind

@@ -54,14 +54,14 @@ f:20: error: header-truncated: dim[0] name: found 68, expected 2147483647 bytes
 
 CLEAN 36=80000000
 f:36: violation: large-count: dim[1] "x" length: found 2147483648, expected below 2147483648
-f:140: note: vsize: var[0] "x" vsize: found 12, expected 4294967295
-f:140: error: large-variable: var[0] "x" vsize: found 8589934592, expected at most 2147483644
-f:180: note: vsize: var[1] "depth" vsize: found 8, expected 4294967295
-f:180: error: large-variable: var[1] "depth" vsize: found 4294967296, expected at most 2147483644
+f:140: note: odd-vsize: var[0] "x" vsize: found 12, expected 4294967295
+f:140: error: large-variable: var[0] "x": found a slab of 8589934592 bytes, expected at most 2147483644
+f:180: note: odd-vsize: var[1] "depth" vsize: found 8, expected 4294967295
+f:180: error: large-variable: var[1] "depth": found a slab of 4294967296 bytes, expected at most 2147483644
 f:184: error: overlap: var[1] "depth" begin: found 360, expected at least 8589934940, the end of var[0] "x"
 f:244: error: overlap: var[2] "t" begin: found 368, expected at least 8589934940, the end of var[0] "x"
-f:304: note: vsize: var[3] "h" vsize: found 8, expected 4294967295
-f:304: error: large-variable: var[3] "h" vsize: found 4294967296, expected at most 2147483644
+f:304: note: odd-vsize: var[3] "h" vsize: found 8, expected 4294967295
+f:304: error: large-variable: var[3] "h": found a slab of 4294967296 bytes, expected at most 2147483644
 f:344: error: record-place: var[4] "q" begin: found 380, expected 4294967668
 f:416: error: missing: var[0] "x": found 416 bytes, expected at least 12884902276
 

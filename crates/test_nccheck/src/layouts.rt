@@ -23,7 +23,7 @@ f:16: note: empty-list: gatts tag: found 12, expected 0
 f:24: note: empty-list: vars tag: found 11, expected 0
 
 STREAMED_HEADER
-f:4: note: streaming: numrecs: found the streaming mark, for 0
+f:4: violation: streaming: numrecs: found the streaming mark, for 0
 f:64: note: empty-list: gatts tag: found 12, expected 0
 f:180: note: floating-type: var[0] "v" att[1] "b" type: found 6 (double)
 f:184: note: empty-attribute: var[0] "v" att[1] "b" count: found 0, expected at least 1
@@ -36,7 +36,7 @@ f:68: note: floating-type: var[0] "s" type: found 5 (float)
 
 ONE_VARIABLE 71=06
 f:68: note: floating-type: var[0] "s" type: found 6 (double)
-f:72: note: vsize: var[0] "s" vsize: found 8, expected 24
+f:72: violation: vsize: var[0] "s" vsize: found 8, expected 24
 f:88: error: missing: var[0] "s": found 88 bytes, expected at least 104
 
 # 1025 dimensions: the header is longer than the buffer that it is read through
@@ -53,11 +53,17 @@ FILLED_SHORTS 91=02
 f:88: violation: fill-value: var[0] "s" att[0] "_FillValue" count: found 2, expected 1
 
 CLEAN 142=1000
-f:140: note: vsize: var[0] "x" vsize: found 4096, expected 12
+f:140: violation: vsize: var[0] "x" vsize: found 4096, expected 12
 
-# the size of a sole record variable of bytes, without its padding
+# the size of a sole record variable of bytes, without its padding, 0, and any other
 RECORD_BYTES 75=01
-f:72: note: vsize: var[0] "b" vsize: found 1, expected 4
+f:72: note: odd-vsize: var[0] "b" vsize: found 1, expected 4
+
+RECORD_BYTES 75=00
+f:72: note: odd-vsize: var[0] "b" vsize: found 0, expected 4
+
+RECORD_BYTES 75=03
+f:72: violation: vsize: var[0] "b" vsize: found 3, expected 4
 "#;
 
 /// The number of records, and where variables begin.
@@ -66,11 +72,11 @@ TWO_RECORDS
 f:4: note: unused-records: numrecs: found 2, expected 0
 
 CLEAN 4=ffffffff
-f:4: note: streaming: numrecs: found the streaming mark, for 3
+f:4: violation: streaming: numrecs: found the streaming mark, for 3
 
 CLEAN 4=ffffffff 142=1000
-f:4: note: streaming: numrecs: found the streaming mark, for 3
-f:140: note: vsize: var[0] "x" vsize: found 4096, expected 12
+f:4: violation: streaming: numrecs: found the streaming mark, for 3
+f:140: violation: vsize: var[0] "x" vsize: found 4096, expected 12
 
 CLEAN 146=0008
 f:144: error: begin-in-header: var[0] "x" begin: found 8, expected at least 348, the end of the header
@@ -115,7 +121,7 @@ f:112: error: overlap: var[1] "y" begin: found 124, expected at least 2147483760
 f:132: error: missing: var[0] "x": found 132 bytes, expected at least 2147483768
 
 COORDINATES 24=20000000 72=80000000 108=80000000
-f:72: error: large-variable: var[0] "x" vsize: found 2147483648, expected at most 2147483644
+f:72: error: large-variable: var[0] "x": found a slab of 2147483648 bytes, expected at most 2147483644
 f:112: error: overlap: var[1] "y" begin: found 124, expected at least 2147483764, the end of var[0] "x"
 f:132: error: missing: var[0] "x": found 132 bytes, expected at least 2147483772
 
@@ -124,7 +130,7 @@ ONE_VARIABLE_CDF2 24=3fffffff 43=02 71=04fffffffc 83=7c 84=000000017900000000000
 f:124: error: missing: var[0] "s": found 124 bytes, expected at least 8589934708
 
 ONE_VARIABLE_CDF2 24=40000000 43=02 71=04ffffffff 83=7c 84=000000017900000000000001 96=000000000000000000000000 108=00000004ffffffff000000010000007c
-f:72: error: large-variable: var[0] "s" vsize: found 4294967296, expected at most 4294967292
+f:72: error: large-variable: var[0] "s": found a slab of 4294967296 bytes, expected at most 4294967292
 f:124: error: missing: var[0] "s": found 124 bytes, expected at least 8589934716
 "#;
 

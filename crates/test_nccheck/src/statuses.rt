@@ -71,10 +71,10 @@ const RUNS: &str = r#"
 >3 checked: 1 with errors, 0 with violations, 0 with notes, 2 with nothing to report; 0 not checked
 
 0 nccheck -V
->nccheck 0.3.2
+>nccheck 0.3.3
 
 0 nccheck -x none -V -h
->nccheck 0.3.2
+>nccheck 0.3.3
 
 2 nccheck -- -V -h
 !nccheck: -V: cannot open: no such file

@@ -1,20 +1,18 @@
 -- For contracts. Findings that need a whole header.
-use Rattle.std.specs.Prelude.{◌≡◌, ◌==◌, if◌then◌else◌, ℕ, List, map, slice_get, Option, Some, None, Ok, Err}
+use Rattle.std.specs.Prelude.{◌≡◌, ℕ, List, map, slice_get, Option, Some, None, option_map, Ok, Err}
 use Rattle.std.specs.Option.{option_to_list}
 use Rattle.nc_types.specs.declared.version.Version.{Version}
-use Rattle.nc_types.specs.Versions.{vsize_of}
 use Rattle.nc_findings.specs.declared.{listing.Listing.Listing, layout_fact.LayoutFinding.LayoutFinding, finding.Fact.Fact, finding.Finding.Finding}
 use Rattle.nc_findings.specs.Contents.{number_of}
-use Rattle.nc_layout.specs.declared.{slot.FileLayout.FileLayout}
+use Rattle.nc_layout.specs.declared.{slot.FileLayout.FileLayout, slot.Slot.Slot}
 use Rattle.nc_findings.specs.declared.layout_fact.LayoutPlace.TheVariants as places
-use Rattle.nc_layout.specs.Slots.{padded_slab_len}
 use Rattle.nc_layout.specs.Blocks.{each_slot}
 use Rattle.nc_layout.specs.Findings.{IsSoundLayout}
 use Rattle.nc_layout.specs.HeaderLayout.{layout_of}
 use Rattle.nc_rules.specs.declared.{ahead.NumberField.NumberField, number_fields.NumberFields.NumberFields}
 use Rattle.nc_findings.specs.declared.finding.Fact.TheVariants as fact
 use Rattle.nc_rules.specs.Indexed.{Indexed, finding_at}
-use Rattle.nc_rules.specs.WholeHeader.{is_numrecs, is_vsize, is_begin, named}
+use Rattle.nc_rules.specs.WholeHeader.{is_numrecs, is_vsize, is_begin, named, vsize_fact}
 
 -- what is kept of a field that is a number
 abbrev pub number_field : Indexed → NumberField
@@ -41,14 +39,13 @@ located_number ns l = elim l.place [
 ]
 
 -- what is found of the size of a variable
-abbrev pub vsize_fact : Version → ℕ → Option NumberField → Option Finding
-vsize_fact v padded None = None
-vsize_fact v padded (Some f) =
-    let expected = vsize_of v padded in if f.number == expected then None else Some (finding_at f.index f.offset (fact.Vsize expected))
+abbrev pub vsize_finding_at : Version → Slot → Option NumberField → Option Finding
+vsize_finding_at v slot None = None
+vsize_finding_at v slot (Some f) = option_map (finding_at f.index f.offset) (vsize_fact v slot f.number)
 
 -- what is found of the sizes of all variables, whose fields these are
-abbrev pub vsize_facts : FileLayout → List NumberField → List Finding
-vsize_facts layout ns = each_slot (λ i slot. option_to_list (vsize_fact layout.version (padded_slab_len slot) (slice_get ns i))) 0 layout.slots
+abbrev pub vsize_findings_at : FileLayout → List NumberField → List Finding
+vsize_findings_at layout ns = each_slot (λ i slot. option_to_list (vsize_finding_at layout.version slot (slice_get ns i))) 0 layout.slots
 
 -- the layout is sound (within the limits), if the header is whole: no field is wrong
 abbrev pub HasSoundLayout : Listing → Type 0
