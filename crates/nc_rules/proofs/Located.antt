@@ -40,7 +40,7 @@ is-that answer P that x is some = grind arith
 -- what is found of a whole header
 pub whole-findings : (l : Listing) (h : Header) (layout : FileLayout) (ns : NumberFields) (entries : List Entry) (found one two : List Finding) (answer : Option FileLayout) → l.header ≡ Ok h
     → SomeIff answer (IsSoundLayout (layout_of h l.end l.file_len)) (layout_of h l.end l.file_len) → answer ≡ Some layout → entries ≡ l.entries → HoldsNumbers (indexed entries) ns
-    → one ≡ found ++ vsize_facts layout ns.vsizes → IsPermutation (one ++ map (located_number ns) (layout_findings layout)) two → IsPermutation (found ++ whole_findings l) two
+    → one ≡ found ++ vsize_findings_at layout ns.vsizes → IsPermutation (one ++ map (located_number ns) (layout_findings layout)) two → IsPermutation (found ++ whole_findings l) two
 unfolding whole_findings
 whole-findings l h layout ns entries found one two answer whole is_layout is_some same holds first p =
     let is : layout ≡ layout_of h l.end l.file_len = is-that answer _ _ layout is_layout is_some in

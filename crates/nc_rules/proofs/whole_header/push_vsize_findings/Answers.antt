@@ -9,5 +9,5 @@ loop-i-preserved c =
     let rest = each_slot f (i + 1) (drop (i + 1) slots) in
     let step = at_drop_more (each_slot f i) slots i _ c.loop-i-test.true in
     ap (λ xs. xs ++ rest) c.in_ok-push_some.ensures
-    ∙ ap (λ o. (c.loop-i.found ++ option_to_list o) ++ rest) (c.vsize_finding.ensures ∙ ap (vsize_finding_at c.args.layout.now.version _) c.field_at-vsize.ensures)
+    ∙ ap (λ o. (c.loop-i.found ++ option_to_list o) ++ rest) (rw c.field_at-vsize.ensures at c.vsize_finding.ensures)
     ∙ append_assoc c.loop-i.found _ rest ∙ ap (λ xs. c.loop-i.found ++ xs) (sym step) ∙ c.loop-i.invariant
