@@ -8,12 +8,19 @@ use Rattle.nc_findings.specs.declared.list_fault.ListFault.TheVariants as list
 use Rattle.cli_base.specs.declared.fault.OptFault.{OptFault}
 use Rattle.cli_base.specs.declared.fault.OptFault.TheVariants as opt
 use Rattle.check_lines.specs.Shown.{shown_path}
-use Rattle.nccheck.specs.declared.fault.FileFault.{FileFault}
-use Rattle.nccheck.specs.declared.fault.FileFault.TheVariants.{CannotOpen, ReadFailed, OutOfMemory, WriteFailed}
+use Rattle.nccheck.specs.declared.{fault.FileFault.FileFault, fault.PathFault.PathFault}
+use Rattle.nccheck.specs.declared.fault.FileFault.TheVariants.{BadPath, CannotOpen, ReadFailed, OutOfMemory, WriteFailed}
+use Rattle.nccheck.specs.declared.fault.PathFault.TheVariants.{Empty, TooLong, NotUtf8}
 
 abbrev pub fault_of_list : ListFault → FileFault
 fault_of_list list.OutOfMemory = OutOfMemory
 fault_of_list list.ReadFailed = ReadFailed
+
+-- a path can't be opened, whatever files there are
+unfoldable pub path_words : PathFault → Bytes
+path_words Empty = codes "cannot open: the path is empty"
+path_words TooLong = codes "cannot open: the path is too long"
+path_words NotUtf8 = codes "cannot open: the path is not UTF-8"
 
 -- a path can't be opened: why, if the system tells it
 unfoldable pub open_words : OpenFailed → Bytes
@@ -23,6 +30,7 @@ open_words NotRegular = codes "cannot open: not a regular file"
 open_words Other = codes "cannot open"
 
 unfoldable pub fault_words : FileFault → Bytes
+fault_words (BadPath why) = path_words why
 fault_words (CannotOpen why) = open_words why
 fault_words ReadFailed = codes "read failed"
 fault_words OutOfMemory = codes "out of memory"

@@ -1,17 +1,17 @@
 -- Definition. What `-V` and `-h` ask for, and what they write.
-use Rattle.std.specs.Prelude.{if◌then◌else◌, List, [], ◌∷◌, ◌++◌, codes, Option, Some, None}
+use Rattle.std.specs.Prelude.{◌||◌, if◌then◌else◌, List, [], ◌∷◌, ◌++◌, codes, Option, Some, None}
 use Rattle.std.specs.Str.{bytes_eq}
 use Rattle.nc_types.specs.Bytes.{Bytes}
 use Rattle.nccheck.specs.Faults.{usage_line}
 use Rattle.nccheck.specs.declared.info.Info.{Info}
 use Rattle.nccheck.specs.declared.info.Info.TheVariants.{Version, Help}
 
--- what the first of the words asks for that is `-V` or `-h`; the words after `--` are files
+-- what the first of the words asks for that is `-V` or `-h`, or one of them in full; the words after `--` are files
 abbrev pub info_among : List Bytes → Option Info
 info_among [] = None
 info_among (word ∷ words) =
-    if bytes_eq word (codes "-V") then Some Version
-    else if bytes_eq word (codes "-h") then Some Help
+    if bytes_eq word (codes "-V") || bytes_eq word (codes "--version") then Some Version
+    else if bytes_eq word (codes "-h") || bytes_eq word (codes "--help") then Some Help
     else if bytes_eq word (codes "--") then None
     else info_among words
 
@@ -33,6 +33,7 @@ option_lines =
     ++ codes "  -i kinds  report nothing of these kinds, which have commas between them\n"
     ++ codes "  -V        print the version\n"
     ++ codes "  -h        print this help\n"
+    ++ codes "nccheck(1), its manual page, lists the kinds.\n"
 
 unfoldable pub info_text : Info → Bytes
 info_text Version = version_line

@@ -9,7 +9,7 @@ use Rattle.devices.specs.Openers.{OpenerView, refuse}
 use Rattle.devices.specs.Readers.{ReaderView}
 use Rattle.devices.specs.Sinks.{SinkView, Appended, FailedPartway}
 use Rattle.devices.specs.Uses.{Use}
-use Rattle.devices.specs.declared.fault.OpenFailed.TheVariants.{NotFound, Other}
+use Rattle.devices.specs.declared.fault.OpenFailed.TheVariants.{NotFound}
 use Rattle.nc_report.specs.Reports.{IsReport}
 use Rattle.nc_findings.specs.declared.listing.Listing.{Listing}
 use Rattle.nc_findings.specs.declared.{finding.Finding.Finding, report.Report.Report, kind.Severity.Severity}
@@ -19,10 +19,10 @@ use Rattle.check_lines.specs.Lines.{gravest, lines}
 use Rattle.nccheck.specs.CommandLine.{Asked, asked_by}
 use Rattle.nccheck.specs.Faults.{file_line, flush_line, opt_fault_line}
 use Rattle.nccheck.specs.Info.{info_in, info_text}
-use Rattle.nccheck.specs.PathLists.{is_path, Item, items_in, ListEnd, Path, Unread, Whole, Broken}
+use Rattle.nccheck.specs.PathLists.{is_path, path_fault, Item, items_in, ListEnd, Path, Unread, Whole, Broken}
 use Rattle.nccheck.specs.Tallies.{Answer, status_of, summary_line, tally_of}
 use Rattle.nccheck.specs.declared.{fault.FileFault.FileFault, info.Info.Info}
-use Rattle.nccheck.specs.declared.fault.FileFault.TheVariants.{CannotOpen, ReadFailed, OutOfMemory, WriteFailed}
+use Rattle.nccheck.specs.declared.fault.FileFault.TheVariants.{BadPath, CannotOpen, ReadFailed, OutOfMemory, WriteFailed}
 
 -- ---- the check of one file
 
@@ -48,6 +48,7 @@ pub record BreaksOff (a : Asked) (bytes file : Bytes) (old new : SinkView) : Typ
 abbrev pub ChecksBytes : Asked → Bytes → Bytes → SinkView → SinkView → Answer → Type 0
 ChecksBytes a bytes file old new (Ok reported) = Checks a bytes file old new reported
 ChecksBytes a bytes file old new (Err WriteFailed) = BreaksOff a bytes file old new
+ChecksBytes a bytes file old new (Err (BadPath why)) = ⊥
 ChecksBytes a bytes file old new (Err (CannotOpen why)) = ⊥
 ChecksBytes a bytes file old new (Err ReadFailed) = new ≡ old
 ChecksBytes a bytes file old new (Err OutOfMemory) = new ≡ old
@@ -74,6 +75,7 @@ WriteFailsOnly old new (Err _) = new ≡ old
 
 -- a path could not be opened exactly if the answer says so, with the reason that the opener gave
 abbrev pub RefusesOnly : {A : Type 0} → OpenerView → OpenerView → Result A FileFault → Type 0
+RefusesOnly old new (Err (BadPath why)) = ⊥
 RefusesOnly old new (Err (CannotOpen why)) = new.refusals ≡ refuse old.refusals why
 RefusesOnly old new _ = new.refusals ≡ old.refusals
 
@@ -129,14 +131,13 @@ pub record Fails {P : Type 0} (file : Bytes) (fault : FileFault) (old new : Stat
 
 -- what came of a path, or of a list that can't be read on
 abbrev pub ChecksItem : {P : Type 0} → Openings P → Asked → Item → State P → State P → Answer → Type 0
-ChecksItem o a (Path file) old new answer = MatchBool (is_path file) (ChecksPath o a file old new answer) (Fails file (CannotOpen Other) old new answer)
+ChecksItem o a (Path file) old new answer = MatchBool (is_path file) (ChecksPath o a file old new answer) (Fails file (BadPath (path_fault file)) old new answer)
 ChecksItem o a Unread old new answer = Fails (codes "-") ReadFailed old new answer
 
 -- ---- the items of a run, in turn
 
--- a failed allocation and a failed standard output end the run
+-- a failed standard output ends the run
 abbrev pub ends_run : Answer → Bool
-ends_run (Err OutOfMemory) = true
 ends_run (Err WriteFailed) = true
 ends_run answer = false
 

@@ -1,6 +1,6 @@
 //! The check of one path.
 
-ghost use Rattle.std.specs.Prelude.{◌≡◌, false, Err, OnErr};
+ghost use Rattle.std.specs.Prelude.{◌≡◌, false, OnErr};
 ghost use Rattle.std.specs.Bool.{OnTrue};
 ghost use Rattle.devices.specs.code.PathOpens.{NamesAsBefore};
 ghost use Rattle.devices.specs.code.SinkWrites.{Wrote};
@@ -14,13 +14,13 @@ use crate::fault_text::put_file_fault;
 use crate::options::CheckOptions;
 use crate::path_list::path_of;
 use check_lines::{gravest, put_lines};
-use devices::{OpenFailed, Opener, Sink, Source, WriteFailed};
+use devices::{Opener, Sink, Source, WriteFailed};
 use nc_report::{Report, Severity, check};
 use std::alloc::Global;
 
 /// Checks the file at the path `file`, and writes the lines of its findings to `out` as the options ask. Returns the gravest severity that
-/// was reported, or `None` if nothing was. Errs as [`check_file`] does, and also with `CannotOpen` for a path that isn't UTF-8 or has more
-/// than 65,535 bytes. Writes the line of an error to `err`, and passes over a failure of `err`.
+/// was reported, or `None` if nothing was. Errs as [`check_file`] does, and also with `BadPath` for a path that is empty, isn't UTF-8 or has
+/// more than 65,535 bytes. Writes the line of an error to `err`, and passes over a failure of `err`.
 #[tactic(auto, using(crate::proofs::InTurn::is_told))]
 pub(crate) fn check_item<P: Opener, O: Sink, E: Sink>(
     opener: &mut P,
@@ -37,9 +37,9 @@ pub(crate) fn check_item<P: Opener, O: Sink, E: Sink>(
     ensures names { NamesAsBefore (P.named opener.old) (P.named opener.new) }
 {
     match path_of(file) {
-        Some(path) => check_and_tell(opener, alloc, path, options, out, err),
-        None => {
-            let fault = FileFault::CannotOpen(OpenFailed::Other);
+        Ok(path) => check_and_tell(opener, alloc, path, options, out, err),
+        Err(why) => {
+            let fault = FileFault::BadPath(why);
             let _ = put_file_fault(err, file, fault);
             Err(fault)
         }
@@ -70,27 +70,12 @@ fn check_and_tell<P: Opener, O: Sink, E: Sink>(
     answer
 }
 
-/// Returns true if a run ends after a check with this answer: if an allocation or standard output failed. After any other fault it goes on
-/// with the next file.
+/// Returns true if a run ends after a check with this answer: if standard output failed. After any other fault, also if an allocation
+/// failed, the run goes on with the next file.
 pub(crate) fn ends_run(answer: Result<Option<Severity>, FileFault>) -> bool
     ensures { result ≡ ends_run answer }
 {
-    match answer {
-        Ok(_) => false,
-        Err(fault) => is_fatal(fault),
-    }
-}
-
-/// Returns true if a run ends after this fault (`OutOfMemory` or `WriteFailed`), instead of going on with the next file.
-fn is_fatal(fault: FileFault) -> bool
-    ensures { result ≡ ends_run (Err fault) }
-{
-    match fault {
-        FileFault::CannotOpen(_) => false,
-        FileFault::ReadFailed => false,
-        FileFault::OutOfMemory => true,
-        FileFault::WriteFailed => true,
-    }
+    matches!(answer, Err(FileFault::WriteFailed))
 }
 
 /// Opens the file at the path `file`, checks it, writes the lines of its findings to `out` as the options ask, and closes it. Returns the

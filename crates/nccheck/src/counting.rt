@@ -24,7 +24,7 @@ use std::io::Read;
 
 /// Checks the files that the options name, one after the other, and then, with `-0`, those whose paths `input` has. Writes what is found to
 /// `out`, and a line for each fault to `err` ([`check_item`]). Returns how many files there were, by what came of each, or `None` after a
-/// fault that ends the run: if an allocation or `out` failed.
+/// fault that ends the run: if `out` failed.
 pub(crate) fn check_all<P: Opener, R: Read, O: Sink, E: Sink>(
     opener: &mut P,
     alloc: Global,
@@ -49,7 +49,7 @@ pub(crate) fn check_all<P: Opener, R: Read, O: Sink, E: Sink>(
 }
 
 /// Checks the files that the options name, one after the other ([`check_item`]), and counts them. Returns `None` after a fault that ends
-/// the run (an allocation or `out` failed).
+/// the run (`out` failed).
 fn check_each<P: Opener, O: Sink, E: Sink>(
     opener: &mut P,
     alloc: Global,
@@ -73,8 +73,8 @@ fn check_each<P: Opener, O: Sink, E: Sink>(
     Some(tally)
 }
 
-/// Checks the file at the path `file` ([`check_item`]), and returns `tally` with it, or `None` after a fault that ends the run (an
-/// allocation or `out` failed). Needs fewer than 2^128 - 1 files in `tally`.
+/// Checks the file at the path `file` ([`check_item`]), and returns `tally` with it, or `None` after a fault that ends the run
+/// (`out` failed). Needs fewer than 2^128 - 1 files in `tally`.
 fn check_and_count<P: Opener, O: Sink, E: Sink>(
     opener: &mut P,
     alloc: Global,
@@ -113,7 +113,7 @@ struct PathList {
 const BUFFER_LEN: usize = 4096;
 
 /// Checks the files whose paths `input` has, each ended by a NUL (the last one with or without), as soon as the path was read. Returns
-/// `tally` with them, or `None` after a fault that ends the run (an allocation or `out` failed). If `input` fails, or after 2^64 - 1 reads,
+/// `tally` with them, or `None` after a fault that ends the run (`out` failed). If `input` fails, or after 2^64 - 1 reads,
 /// it goes no further: it writes a line to `err`, and counts one more file as not checked. Needs fewer than 2^64 files in `tally`.
 fn check_list<P: Opener, R: Read, O: Sink, E: Sink>(
     opener: &mut P,
@@ -148,7 +148,7 @@ fn check_list<P: Opener, R: Read, O: Sink, E: Sink>(
 }
 
 /// Takes `bytes`, the next of the paths on standard input: appends them to the path that `list` has begun, and at each NUL checks the file
-/// at that path, counts it in `list`, and begins the next path. Returns `None` after a fault that ends the run (an allocation or `out`
+/// at that path, counts it in `list`, and begins the next path. Returns `None` after a fault that ends the run (`out`
 /// failed). Needs a tally that stays below 2^128 files even if each byte ends a path.
 fn check_paths_in<P: Opener, O: Sink, E: Sink>(
     opener: &mut P,
@@ -182,7 +182,7 @@ fn check_paths_in<P: Opener, O: Sink, E: Sink>(
 }
 
 /// Checks the file at the path that `list` has begun, if there is one: standard input ended without a NUL after it. Returns the tally of
-/// `list` with it, or `None` after a fault that ends the run (an allocation or `out` failed). Needs fewer than 2^128 - 1 files in the
+/// `list` with it, or `None` after a fault that ends the run (`out` failed). Needs fewer than 2^128 - 1 files in the
 /// tally.
 fn check_last<P: Opener, O: Sink, E: Sink>(
     opener: &mut P,

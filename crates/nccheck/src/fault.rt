@@ -7,9 +7,22 @@ ghost use Rattle.nccheck.specs.declared.fault.FileFault.TheVariants.{CannotOpen,
 use devices::{OpenFailed, WriteFailed};
 use nc_findings::ListFault;
 
+/// Why a path can't be one of a file.
+#[derive(Clone, Copy)]
+pub enum PathFault {
+    /// It has no byte.
+    Empty,
+    /// It has more than 65,535 bytes.
+    TooLong,
+    /// It isn't UTF-8.
+    NotUtf8,
+}
+
 /// Why a file could not be checked, or its lines not written.
 #[derive(Clone, Copy)]
 pub enum FileFault {
+    /// The path can't be opened, whatever files there are.
+    BadPath(PathFault),
     /// The path can't be opened: why, if the system tells it.
     CannotOpen(OpenFailed),
     /// The file could not be read.

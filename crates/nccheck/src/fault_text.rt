@@ -2,9 +2,9 @@
 
 ghost use Rattle.std.specs.Prelude.{◌≡◌};
 ghost use Rattle.devices.specs.code.SinkWrites.{Wrote};
-ghost use Rattle.nccheck.specs.Faults.{fault_words, file_line, flush_line, open_words, opt_fault_line, usage_line};
+ghost use Rattle.nccheck.specs.Faults.{fault_words, file_line, flush_line, open_words, opt_fault_line, path_words, usage_line};
 
-use crate::fault::FileFault;
+use crate::fault::{FileFault, PathFault};
 use check_lines::put_file_path;
 use cli_base::OptFault;
 use devices::{OpenFailed, Sink, WriteFailed, put};
@@ -35,6 +35,7 @@ fn fault_words(fault: FileFault) -> &'static str
     ensures { result.now ≡ fault_words fault }
 {
     match fault {
+        FileFault::BadPath(why) => path_words(why),
         FileFault::CannotOpen(why) => open_words(why),
         FileFault::ReadFailed => "read failed",
         FileFault::OutOfMemory => "out of memory",
@@ -52,6 +53,18 @@ fn open_words(why: OpenFailed) -> &'static str
         OpenFailed::PermissionDenied => "cannot open: permission denied",
         OpenFailed::NotRegular => "cannot open: not a regular file",
         OpenFailed::Other => "cannot open",
+    }
+}
+
+/// Returns the words for a path that no file can have, such as `cannot open: the path is empty`.
+#[tactic(auto, unfolding(crate::specs::Faults::path_words))]
+fn path_words(why: PathFault) -> &'static str
+    ensures { result.now ≡ path_words why }
+{
+    match why {
+        PathFault::Empty => "cannot open: the path is empty",
+        PathFault::TooLong => "cannot open: the path is too long",
+        PathFault::NotUtf8 => "cannot open: the path is not UTF-8",
     }
 }
 

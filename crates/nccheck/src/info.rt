@@ -11,9 +11,9 @@ use devices::{Sink, WriteFailed, put};
 /// What the program tells of itself.
 #[derive(Clone, Copy)]
 pub(crate) enum Info {
-    /// The version: `-V`.
+    /// The version: `-V` or `--version`.
     Version,
-    /// How the program is used, with its options: `-h`.
+    /// How the program is used, with its options: `-h` or `--help`.
     Help,
 }
 
@@ -33,10 +33,10 @@ fn info_among(words: &[&str]) -> Option<Info>
     ensures { result ≡ info_among (texts_of words.now) }
 {
     for word in words {
-        if *word == "-V" {
+        if *word == "-V" || *word == "--version" {
             return Some(Info::Version);
         }
-        if *word == "-h" {
+        if *word == "-h" || *word == "--help" {
             return Some(Info::Help);
         }
         if *word == "--" {
@@ -83,5 +83,5 @@ fn option_lines() -> &'static [u8]
     -l level  report what is at least as grave: error, violation (the default) or note\n  \
     -i kinds  report nothing of these kinds, which have commas between them\n  \
     -V        print the version\n  \
-    -h        print this help\n"
+    -h        print this help\nnccheck(1), its manual page, lists the kinds.\n"
 }

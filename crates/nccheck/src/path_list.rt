@@ -1,8 +1,9 @@
 //! The paths of a list.
 
-ghost use Rattle.std.specs.Prelude.{◌≡◌, false, true, MatchOption};
-ghost use Rattle.nccheck.specs.PathLists.{is_path, with_byte};
+ghost use Rattle.std.specs.Prelude.{◌≡◌, false, true, IfErr, IfOk};
+ghost use Rattle.nccheck.specs.PathLists.{is_path, path_fault, with_byte};
 
+use crate::fault::PathFault;
 use arrayvec::ArrayVec;
 use check_lines::LONGEST_PATH;
 use std::str;
@@ -20,17 +21,20 @@ pub(crate) fn push_byte(path: &mut ListedPath, b: u8)
     }
 }
 
-/// Returns the path as text, or `None` if it can't be opened since it isn't UTF-8, or has more than [`LONGEST_PATH`] bytes.
+/// Returns the path as text. Errs if it can't be opened since it is empty, has more than [`LONGEST_PATH`] bytes, or isn't UTF-8.
 #[tactic(auto, unfolding(crate::specs::PathLists::is_path))]
-pub(crate) fn path_of(file: &[u8]) -> Option<&str>
-    ensures { MatchOption result (is_path file.now ≡ false)
-        (λ path. (path.now ≡ file.now) × (is_path file.now ≡ true)) }
+pub(crate) fn path_of(file: &[u8]) -> Result<&str, PathFault>
+    ensures text { IfOk result (λ path. (path.now ≡ file.now) × (is_path file.now ≡ true)) }
+    ensures fault { IfErr result (λ why. (why ≡ path_fault file.now) × (is_path file.now ≡ false)) }
 {
+    if file.is_empty() {
+        return Err(PathFault::Empty);
+    }
     if file.len() > LONGEST_PATH {
-        return None;
+        return Err(PathFault::TooLong);
     }
     match str::from_utf8(file) {
-        Ok(path) => Some(path),
-        Err(_) => None,
+        Ok(path) => Ok(path),
+        Err(_) => Err(PathFault::NotUtf8),
     }
 }

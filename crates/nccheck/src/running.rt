@@ -26,8 +26,8 @@ use std::io::Read;
 /// standard input can't be read, if standard output fails, or if an allocation fails; a line on standard error says so. Otherwise it is 1
 /// if something was reported of a file, and 0 if nothing was, or if the words ask for the version or for help. Files are checked in the
 /// order of the words, and then in that of the list, which is read only if the words ask for that. After a file that can't be opened or
-/// read the run goes on with the next one; a failure of standard output or of an allocation ends it. Standard output is flushed in any
-/// case. Standard error is not flushed.
+/// read, or for which an allocation fails, the run goes on with the next one; a failure of standard output ends it. Standard output is
+/// flushed in any case. Standard error is not flushed.
 #[tactic(auto, using(crate::proofs::InTurn::is_told))]
 pub fn run_with<P: Opener, R: Read, O: Flush, E: Sink>(
     opener: &mut P,
@@ -125,7 +125,7 @@ fn check_for_words<P: Opener, R: Read, O: Sink, E: Sink>(
 }
 
 /// Checks the files of the options, with those whose paths `input` has if the options ask for that (`-0`), and returns the exit status:
-/// that of [`Tally::status`](crate::tally::Tally::status), or 2 if an allocation or `out` failed, which ends the run. If the options ask
+/// that of [`Tally::status`](crate::tally::Tally::status), or 2 if `out` failed, which ends the run. If the options ask
 /// for it (`-s`), and the run wasn't ended so, writes a line that counts the files to `out`; if that fails, writes a line to `err`, and
 /// returns 2.
 fn check_files<P: Opener, R: Read, O: Sink, E: Sink>(
