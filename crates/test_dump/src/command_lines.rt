@@ -7,7 +7,7 @@ use std::process::Abort;
 use std::test::Fail;
 use test_files::{
     COORDINATES, LARGE_SLAB, LONG_LINE, ONE_VARIABLE, Refusing, SMALLEST, TWO_RECORD_DIMS,
-    UNSIGNED_FILLS, patched, words_of,
+    UNSIGNED_FILLS, patched, parts_of,
 };
 
 /// A run of the program on these words, the first one its name, with a space between two. The only file is `t.nc`, which has these bytes.
@@ -52,7 +52,7 @@ fn expect_run(rt: &impl Abort, alloc: Global, run: &Run<'_>) -> Result<(), Fail>
         path: "t.nc",
         bytes: run.bytes,
     }];
-    let words = words_of(alloc, run.words)?;
+    let words = parts_of(alloc, run.words, ' ')?;
     let mut opener = MemFiles::new(&files);
     let status = run_with(&mut opener, alloc, words.as_slice(), &mut out, &mut err);
     assert!(rt; status == run.status, "{}", run.words);
@@ -340,7 +340,7 @@ fn are_chosen(options: &DumpOptions, names: &[&[u8]]) -> bool {
 
 /// The options that a command line asks for.
 fn options_of_line(alloc: Global, line: &str) -> Result<DumpOptions, Fail> {
-    let words = words_of(alloc, line)?;
+    let words = parts_of(alloc, line, ' ')?;
     let matches = command(alloc)?.try_get_matches_from(words.as_slice())?;
     Ok(options_of(alloc, &matches)?)
 }

@@ -2,11 +2,13 @@
 #![tactic(auto)]
 
 mod characters;
+mod checked;
 mod cut_source;
 mod headers;
 mod made;
 mod records;
 mod refusing;
+mod said;
 mod values;
 mod words;
 
@@ -14,6 +16,7 @@ pub use characters::{
     ALL_NULS, ESCAPED_CHARACTERS, FILLED_ROWS, HELD_NULS, MANY_HELD_NULS, ROWS_OF_NULS,
     ROWS_OF_NULS_AND_FILL, SECOND_ROW_LACKING,
 };
+pub use checked::{CLEAN, EMPTY_LISTS, ODD_HEADER, STREAMED_HEADER};
 pub use cut_source::{CutSource, cut};
 pub use headers::{
     ESCAPED_NAMES, HOSTILE_COUNT, HOSTILE_COUNT_CDF5, LARGE_SLAB, NO_RECORDS, NULS_IN_ATTRIBUTES,
@@ -26,8 +29,9 @@ pub use records::{
     THREE_PADDED_RECORDS, THREE_VARIABLES, UNSIGNED_RECORDS,
 };
 pub use refusing::Refusing;
+pub use said::{char_bytes, file_of, hex_bytes};
 pub use values::{
     COORDINATES, FILL_OF_BYTES, FILLED_SHORTS, FORTY_SHORTS, LONG_LINE, LOW_BYTE, ONE_VARIABLE,
     ONE_VARIABLE_CDF2, ONE_VARIABLE_CDF5, SHORT_LINE, UNSIGNED_FILLS,
 };
-pub use words::words_of;
+pub use words::parts_of;

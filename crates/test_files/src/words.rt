@@ -1,12 +1,12 @@
-//! Words of command lines.
+//! The parts of texts.
 
 use std::alloc::{AllocError, Global};
 
-/// The words of a text, which has a space between two.
-pub fn words_of<'a>(alloc: Global, text: &'a str) -> Result<Vec<&'a str>, AllocError> {
-    let mut words = Vec::new(alloc);
-    for word in text.split(' ') {
-        words.push(word)?;
+/// The parts of a text, which has this mark between two: the words of a command line, or the cells of a row.
+pub fn parts_of<'a>(alloc: Global, text: &'a str, mark: char) -> Result<Vec<&'a str>, AllocError> {
+    let mut parts = Vec::new(alloc);
+    for part in text.split(mark) {
+        parts.push(part)?;
     }
-    Ok(words)
+    Ok(parts)
 }

@@ -7,7 +7,7 @@ use ncgen::{command, options_of, run_with};
 use std::alloc::{AllocError, Global};
 use std::process::Abort;
 use std::test::*;
-use test_files::words_of;
+use test_files::parts_of;
 
 /// A text, the same at a path that begins with a dash, and one that is refused.
 const TEXTS: [MemFile<'static>; 3] = [
@@ -90,7 +90,7 @@ static FILES: &[(&str, &str, Version)] = &[
 #[test]
 fn words_choose_the_output_and_its_version(rt: HostRuntime) -> Result<(), AllocError> {
     for (text, path, version) in FILES {
-        let words = words_of(rt.alloc(), *text)?;
+        let words = parts_of(rt.alloc(), *text, ' ')?;
         let made = Some((*path, file_in(*version)));
         ends(
             &rt,
@@ -179,7 +179,7 @@ ncgen -x d/f.cdl";
 #[test]
 fn other_words_have_the_usage(rt: HostRuntime) -> Result<(), AllocError> {
     for text in USAGE_FAULTS.split('\n') {
-        let words = words_of(rt.alloc(), text)?;
+        let words = parts_of(rt.alloc(), text, ' ')?;
         ends(
             &rt,
             rt.alloc(),
@@ -240,7 +240,7 @@ fn runs_without_an_output(rt: HostRuntime) -> Result<(), AllocError> {
         },
     ];
     for (text, input, line) in LINES {
-        let words = words_of(rt.alloc(), *text)?;
+        let words = parts_of(rt.alloc(), *text, ' ')?;
         ends(
             &rt,
             rt.alloc(),

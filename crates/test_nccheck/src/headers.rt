@@ -1,6 +1,5 @@
 //! The fields that are listed of headers that are right, and of such headers whose source ends early or fails.
 
-use crate::files::{EMPTY_LISTS, ODD_HEADER, STREAMED_HEADER};
 use devices::{DripSource, FailWhen};
 use nc_base::{FormatFault, NumRecs, Version};
 use nc_fields::FieldKind::{
@@ -14,7 +13,7 @@ use nc_report::check;
 use std::alloc::{AllocError, Global};
 use std::process::Abort;
 use std::test::Fail;
-use test_files::cut;
+use test_files::{EMPTY_LISTS, ODD_HEADER, STREAMED_HEADER, cut};
 
 /// What the content of a field has to be, as [`Content`].
 #[derive(Clone, Copy, PartialEq, Eq)]

@@ -5,8 +5,6 @@
 #[cfg(test)]
 mod faults;
 #[cfg(test)]
-mod files;
-#[cfg(test)]
 mod headers;
 #[cfg(test)]
 mod layouts;

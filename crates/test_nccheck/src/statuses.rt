@@ -1,13 +1,12 @@
 //! Runs over several files, with options and trouble.
 
-use crate::files::CLEAN;
 use devices::{CountedRead, MemFile, MemFiles, OpenFailed, SliceSink};
 use nccheck::run_with;
 use std::alloc::{AllocError, Global};
 use std::io;
 use std::io::{ErrorKind, Read};
 use std::process::Abort;
-use test_files::{COORDINATES, Refusing, TWO_RECORDS, patched, words_of};
+use test_files::{CLEAN, COORDINATES, Refusing, TWO_RECORDS, char_bytes, parts_of, patched};
 
 /// How the program is used.
 const USAGE: &[u8] = b"usage: nccheck [-q] [-s] [-0] [-l level] [-i kinds] [file ...]\n";
@@ -22,10 +21,6 @@ const HELP: &[u8] = b"usage: nccheck [-q] [-s] [-0] [-l level] [-i kinds] [file 
     -V        print the version\n  \
     -h        print this help\n";
 
-/// The line of the file `names`.
-const LINE: &[u8] =
-    b"names:84: violation: duplicate-name: var[1] \"x\" name: found the name of number 0\n";
-
 /// How many bytes standard output takes where it doesn't fail.
 const ROOM: usize = 1024;
 
@@ -34,8 +29,9 @@ const ROOM: usize = 1024;
 type Run<'a> = (&'a [&'a str], usize, u8, &'a [u8], &'a [u8]);
 
 /// Runs over a clean file, `clean`, one with an error, `text`, one with a violation, `names`, and one with a note, `records`: blocks with
-/// an empty line between two. A block has the status and the words of a run, and after the marks `>` and `!` the lines that it writes to
-/// standard output and to standard error.
+/// an empty line between two. A block has the status and the words of a run; after the marks `>` and `!` the lines that it writes to
+/// standard output and to standard error; after `<` what standard input has, with `^` for a NUL, and `%` for a read that fails at last; and
+/// after `=` how many bytes of its lines standard output takes.
 const RUNS: &str = r#"
 0 nccheck clean records
 
@@ -79,6 +75,63 @@ const RUNS: &str = r#"
 2 nccheck -- -V -h
 !nccheck: -V: cannot open: no such file
 !nccheck: -h: cannot open: no such file
+
+# a run ends if standard output fails, and the files aren't counted
+2 nccheck -q -s clean
+=9
+>1 checked
+!nccheck: write failed
+
+2 nccheck -V
+=9
+>nccheck 0
+!nccheck: write failed
+
+2 nccheck -s names none
+=9
+>names:84:
+!nccheck: names: write failed
+"#;
+
+/// Runs over lists of paths.
+const LISTS: &str = r#"
+0 nccheck -0
+<
+
+1 nccheck -0
+<clean^names^
+>names:84: violation: duplicate-name: var[1] "x" name: found the name of number 0
+
+1 nccheck -0
+<clean^names
+>names:84: violation: duplicate-name: var[1] "x" name: found the name of number 0
+
+# the words come first, and a file that is named twice counts twice
+2 nccheck names -0s none
+<clean^records^clean
+>names:84: violation: duplicate-name: var[1] "x" name: found the name of number 0
+>4 checked: 0 with errors, 1 with violations, 0 with notes, 3 with nothing to report; 1 not checked
+!nccheck: none: cannot open: no such file
+
+# paths that can't be opened
+2 nccheck -0
+<café.nc^^names^
+>names:84: violation: duplicate-name: var[1] "x" name: found the name of number 0
+!nccheck: caf\351.nc: cannot open
+!nccheck: : cannot open: no such file
+
+# a list that can't be read on
+2 nccheck -0 -q -s
+<names^clean%
+>1 checked: 0 with errors, 1 with violations, 0 with notes, 0 with nothing to report; 1 not checked
+!nccheck: -: read failed
+
+# a run that has ended
+2 nccheck -0
+=9
+<names^none^%
+>names:84:
+!nccheck: names: write failed
 "#;
 
 /// Words that are answered with the usage, a run a line.
@@ -101,28 +154,6 @@ static OTHERS: &[Run<'_>] = &[
         2,
         b"",
         b"nccheck: a\\t\\n\\001\\177\\\\\"'\xc3\xa9: cannot open: no such file\n",
-    ),
-    // a run ends if standard output fails, and the files aren't counted
-    (
-        &["nccheck", "-q", "-s", "clean"],
-        9,
-        2,
-        b"1 checked",
-        b"nccheck: write failed\n",
-    ),
-    (
-        &["nccheck", "-V"],
-        9,
-        2,
-        b"nccheck 0",
-        b"nccheck: write failed\n",
-    ),
-    (
-        &["nccheck", "-s", "names", "none"],
-        9,
-        2,
-        b"names:84:",
-        b"nccheck: names: write failed\n",
     ),
 ];
 
@@ -152,70 +183,6 @@ const UNREAD: Input<'_> = Input {
     fails: false,
 };
 
-/// Runs over lists of paths: standard input, whether a read of it fails at last, and the run.
-static LISTS: &[(&[u8], bool, Run<'_>)] = &[
-    (b"", false, (&["nccheck", "-0"], ROOM, 0, b"", b"")),
-    (
-        b"clean\0names\0",
-        false,
-        (&["nccheck", "-0"], ROOM, 1, LINE, b""),
-    ),
-    (
-        b"clean\0names",
-        false,
-        (&["nccheck", "-0"], ROOM, 1, LINE, b""),
-    ),
-    // the words come first, and a file that is named twice counts twice
-    (
-        b"clean\0records\0clean",
-        false,
-        (
-            &["nccheck", "names", "-0s", "none"],
-            ROOM,
-            2,
-            b"names:84: violation: duplicate-name: var[1] \"x\" name: found the name of number 0\n\
-            4 checked: 0 with errors, 1 with violations, 0 with notes, 3 with nothing to report; 1 not checked\n",
-            b"nccheck: none: cannot open: no such file\n",
-        ),
-    ),
-    // paths that can't be opened
-    (
-        b"caf\xe9.nc\0\0names\0",
-        false,
-        (
-            &["nccheck", "-0"],
-            ROOM,
-            2,
-            LINE,
-            b"nccheck: caf\\351.nc: cannot open\nnccheck: : cannot open: no such file\n",
-        ),
-    ),
-    // a list that can't be read on
-    (
-        b"names\0clean",
-        true,
-        (
-            &["nccheck", "-0", "-q", "-s"],
-            ROOM,
-            2,
-            b"1 checked: 0 with errors, 1 with violations, 0 with notes, 0 with nothing to report; 1 not checked\n",
-            b"nccheck: -: read failed\n",
-        ),
-    ),
-    // a run that has ended
-    (
-        b"names\0none\0",
-        true,
-        (
-            &["nccheck", "-0"],
-            9,
-            2,
-            b"names:84:",
-            b"nccheck: names: write failed\n",
-        ),
-    ),
-];
-
 /// Returns true if the run over these files ends as wanted.
 fn ends(alloc: Global, files: &[MemFile<'_>], run: &Run<'_>, input: Input<'_>) -> bool {
     let (words, room, status, lines, trouble) = *run;
@@ -231,45 +198,68 @@ fn ends(alloc: Global, files: &[MemFile<'_>], run: &Run<'_>, input: Input<'_>) -
         &mut out,
         &mut err,
     );
+    let lines = lines.get(..room).unwrap_or(lines);
     ended == status && out.taken() == lines && err.taken() == trouble
+}
+
+/// The lines of a block after this mark, each with a line feed.
+fn marked(alloc: Global, block: &str, mark: char) -> Result<String, AllocError> {
+    let mut text = String::new(alloc);
+    for line in block.split('\n') {
+        if let Some(line) = line.strip_prefix(mark) {
+            text.push_str(line)?;
+            text.push('\n')?;
+        }
+    }
+    Ok(text)
+}
+
+/// The bytes that a line of a block says of standard input.
+fn input_bytes(alloc: Global, line: &str) -> Result<Vec<u8>, AllocError> {
+    let mut bytes = char_bytes(alloc, line.trim_end_matches('%'))?;
+    for byte in bytes.as_mut_slice() {
+        if *byte == b'\n' {
+            *byte = 0;
+        }
+    }
+    Ok(bytes)
 }
 
 /// Returns true if the run of this block ends as the block says.
 fn ends_so(alloc: Global, files: &[MemFile<'_>], block: &str) -> Result<bool, AllocError> {
-    let (mut status, mut words) = (0, Vec::new(alloc));
-    let (mut lines, mut trouble) = (String::new(alloc), String::new(alloc));
+    let (mut status, mut words, mut room, mut listed) = (9, "", ROOM, "names^");
     for line in block.split('\n') {
-        if let Some(line) = line.strip_prefix(">") {
-            push_line(&mut lines, line)?;
-        } else if let Some(line) = line.strip_prefix("!") {
-            push_line(&mut trouble, line)?;
+        if let Some(line) = line.strip_prefix('<') {
+            listed = line;
+        } else if let Some(line) = line.strip_prefix('=') {
+            room = line.parse().unwrap_or(0);
         } else if let Some((number, rest)) = line.split_once(' ') {
-            status = number.parse().unwrap_or(9);
-            words = words_of(alloc, rest)?;
+            if let Ok(number) = number.parse() {
+                (status, words) = (number, rest);
+            }
         }
     }
+    let (words, bytes) = (parts_of(alloc, words, ' ')?, input_bytes(alloc, listed)?);
+    let (lines, trouble) = (marked(alloc, block, '>')?, marked(alloc, block, '!')?);
     let (lines, trouble) = (lines.as_bytes(), trouble.as_bytes());
-    let run = (words.as_slice(), ROOM, status, lines, trouble);
-    Ok(ends(alloc, files, &run, UNREAD))
-}
-
-/// Adds a line to a text.
-fn push_line(text: &mut String, line: &str) -> Result<(), AllocError> {
-    text.push_str(line)?;
-    text.push('\n')
+    let run = (words.as_slice(), room, status, lines, trouble);
+    let (bytes, fails) = (bytes.as_slice(), listed.ends_with('%'));
+    Ok(ends(alloc, files, &run, Input { bytes, fails }))
 }
 
 /// Returns true if these words are answered with the usage.
 fn ends_with_usage(alloc: Global, files: &[MemFile<'_>], words: &str) -> Result<bool, AllocError> {
-    let words = words_of(alloc, words)?;
+    let words = parts_of(alloc, words, ' ')?;
     let run = (words.as_slice(), ROOM, 2, b"".as_slice(), USAGE);
     Ok(ends(alloc, files, &run, UNREAD))
 }
 
 /// Fails unless all runs over these files end as they have to.
 fn all_end_so(rt: &impl Abort, alloc: Global, files: &[MemFile<'_>]) -> Result<(), AllocError> {
-    for block in RUNS.split("\n\n") {
-        assert!(rt; ends_so(alloc, files, block)?, "{block}");
+    for table in [RUNS, LISTS] {
+        for block in table.split("\n\n") {
+            assert!(rt; ends_so(alloc, files, block)?, "{block}");
+        }
     }
     for words in USAGE_FAULTS.split('\n') {
         assert!(rt; ends_with_usage(alloc, files, words)?, "{words}");
@@ -277,40 +267,24 @@ fn all_end_so(rt: &impl Abort, alloc: Global, files: &[MemFile<'_>]) -> Result<(
     for run in OTHERS {
         assert!(rt; ends(alloc, files, run, UNREAD), "{:?}", run.0);
     }
-    for (bytes, fails, run) in LISTS {
-        let input = Input {
-            bytes: *bytes,
-            fails: *fails,
-        };
-        assert!(rt; ends(alloc, files, run, input), "{bytes:?}");
-    }
     Ok(())
+}
+
+/// A file of these bytes at this path.
+fn file<'a>(path: &'a str, bytes: &'a [u8]) -> MemFile<'a> {
+    MemFile { path, bytes }
 }
 
 #[test]
 fn runs_end_with_their_status(rt: HostRuntime) -> Result<(), AllocError> {
     let equal_names = patched(rt.alloc(), COORDINATES, 84, b"x")?;
+    let names = equal_names.as_slice();
     let files = [
-        MemFile {
-            path: "clean",
-            bytes: CLEAN,
-        },
-        MemFile {
-            path: "text",
-            bytes: b"netcdf t {\n}\n",
-        },
-        MemFile {
-            path: "names",
-            bytes: equal_names.as_slice(),
-        },
-        MemFile {
-            path: "names\\",
-            bytes: equal_names.as_slice(),
-        },
-        MemFile {
-            path: "records",
-            bytes: TWO_RECORDS,
-        },
+        file("clean", CLEAN),
+        file("text", b"netcdf t {\n}\n"),
+        file("names", names),
+        file("names\\", names),
+        file("records", TWO_RECORDS),
     ];
     all_end_so(&rt, rt.alloc(), &files)
 }
@@ -319,39 +293,25 @@ fn runs_end_with_their_status(rt: HostRuntime) -> Result<(), AllocError> {
 #[test]
 fn file_that_is_refused_has_its_reason(rt: HostRuntime) {
     const ROWS: &[(OpenFailed, &[u8])] = &[
-        (
-            OpenFailed::NotFound,
-            b"nccheck: f: cannot open: no such file\n",
-        ),
-        (
-            OpenFailed::PermissionDenied,
-            b"nccheck: f: cannot open: permission denied\n",
-        ),
-        (
-            OpenFailed::NotRegular,
-            b"nccheck: f: cannot open: not a regular file\n",
-        ),
-        (OpenFailed::Other, b"nccheck: f: cannot open\n"),
+        (OpenFailed::NotFound, b": no such file\n"),
+        (OpenFailed::PermissionDenied, b": permission denied\n"),
+        (OpenFailed::NotRegular, b": not a regular file\n"),
+        (OpenFailed::Other, b"\n"),
     ];
-    for (why, line) in ROWS {
+    let alloc = rt.alloc();
+    for (why, reason) in ROWS {
         let (mut line_space, mut trouble_space) = ([0; 16], [0; 64]);
         let mut out = SliceSink::new(&mut line_space, 7);
         let mut err = SliceSink::new(&mut trouble_space, 5);
         let mut files = Refusing::new(*why);
         let mut input = CountedRead::new(UNREAD);
         let words = ["nccheck", "f"];
-        let status = run_with(
-            &mut files,
-            rt.alloc(),
-            &words,
-            &mut input,
-            &mut out,
-            &mut err,
-        );
-        assert!(rt;
-            status == 2 && out.taken().is_empty() && files.opens() == 1,
-            "{why:?}"
-        );
-        assert!(rt; err.taken() == *line, "{why:?}");
+        let status = run_with(&mut files, alloc, &words, &mut input, &mut out, &mut err);
+        let is_ended = status == 2 && out.taken().is_empty() && files.opens() == 1;
+        let told = err
+            .taken()
+            .strip_prefix(b"nccheck: f: cannot open".as_slice());
+        let is_told = matches!(told, Some(told) if told == *reason);
+        assert!(rt; is_ended && is_told, "{why:?}");
     }
 }

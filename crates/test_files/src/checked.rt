@@ -1,4 +1,4 @@
-//! Files, byte by byte, that the tests of `nccheck` alone have.
+//! Files for what `nccheck` says of fields.
 
 /// `int x(x)`, `short depth(x)`, `int t(t)`, `short h(t, x)` and `byte q(t)`, x = 3, and three records of 16 bytes. Three of the variables
 /// have `units`. Nothing is wrong with it: 348 bytes of header, and 68 of values, all of them 0.
