@@ -43,82 +43,29 @@ impl Write for Counting {
 /// How many bytes of values or of text each file has.
 const COUNT: usize = 100_000;
 
-/// A file of many bytes that are alike: a file, how many of its bytes stand before them, four others of these from an offset on, the byte
-/// that the many are, what stands after them, and how many reads and writes a dump takes.
-struct Long {
-    bytes: &'static [u8],
-    len: usize,
-    change: (usize, &'static [u8]),
-    many: u8,
-    tail: &'static [u8],
-    reads: u64,
-    writes: u64,
-}
+/// A file of many bytes that are alike: the words of the file before them, the byte that they are, how many zeros come after them, and how
+/// many reads and writes a dump takes.
+type Long = (&'static str, u8, usize, u64, u64);
 
 /// The values of a sole record variable, which lie side by side, so that a read takes many of them.
-const LONG_RECORDS: Long = Long {
-    bytes: test_files::RECORD_BYTES,
-    len: 80,
-    change: (4, b"\0\x01\x86\xa0"),
-    many: 7,
-    tail: b"",
-    reads: 30,
-    writes: 6_000,
-};
+const LONG_RECORDS: Long = ("RECORD_BYTES 4=000186a0 ..80", 7, 0, 30, 6_000);
 
 /// Files of many numbers, records and characters, of a long attribute and of a long name.
 static FILES: &[Long] = &[
     LONG_RECORDS,
-    Long {
-        bytes: test_files::ONE_VARIABLE,
-        change: (24, b"\0\0\xc3\x50"),
-        writes: 3_000,
-        ..LONG_RECORDS
-    },
+    ("ONE_VARIABLE 24=0000c350 ..80", 7, 0, 30, 3_000),
     // values of two record variables lie apart, so that each takes a read of its own, and none takes two
-    Long {
-        bytes: test_files::PADDED_RECORDS,
-        len: 116,
-        change: (4, b"\0\0\x30\xd4"),
-        reads: 25_030,
-        writes: 3_000,
-        ..LONG_RECORDS
-    },
-    Long {
-        bytes: test_files::HELD_NULS,
-        change: (24, b"\0\x01\x86\xa0"),
-        many: b'a',
-        writes: 80,
-        ..LONG_RECORDS
-    },
-    Long {
-        bytes: test_files::TEXT_ATTRIBUTE,
-        len: 40,
-        change: (36, b"\0\x01\x86\xa0"),
-        many: b'a',
-        tail: &[0; 8],
-        writes: 30,
-        ..LONG_RECORDS
-    },
-    Long {
-        bytes: test_files::TWO_RECORDS,
-        len: 20,
-        change: (16, b"\0\x01\x86\xa0"),
-        many: b'n',
-        tail: &[0; 20],
-        writes: 40,
-        ..LONG_RECORDS
-    },
+    ("PADDED_RECORDS 4=000030d4 ..116", 7, 0, 25_030, 3_000),
+    ("HELD_NULS 24=000186a0 ..80", b'a', 0, 30, 80),
+    ("TEXT_ATTRIBUTE 36=000186a0 ..40", b'a', 8, 30, 30),
+    ("TWO_RECORDS 16=000186a0 ..20", b'n', 20, 30, 40),
 ];
 
 /// The bytes of a long file.
-fn long_file(alloc: Global, long: &Long) -> Result<Vec<u8>, AllocError> {
-    let (at, change) = long.change;
-    let mut file = test_files::patched(alloc, long.bytes, at, change)?;
-    file.truncate(long.len);
-    let many = Vec::from_elem(alloc, long.many, COUNT)?;
-    file.extend_from_slice(many.as_slice())?;
-    file.extend_from_slice(long.tail)?;
+fn long_file(alloc: Global, (words, many, zeros, _, _): Long) -> Result<Vec<u8>, AllocError> {
+    let mut file = test_files::file_of(alloc, words)?;
+    file.resize(file.len().saturating_add(COUNT), many)?;
+    file.resize(file.len().saturating_add(zeros), 0)?;
     Ok(file)
 }
 
@@ -127,15 +74,16 @@ fn long_file(alloc: Global, long: &Long) -> Result<Vec<u8>, AllocError> {
 #[test]
 fn dumps_of_long_files(rt: HostRuntime) -> Result<(), AllocError> {
     for long in FILES {
-        let file = long_file(rt.alloc(), long)?;
+        let (_, _, _, reads, writes) = *long;
+        let file = long_file(rt.alloc(), *long)?;
         let options = options_of(rt.alloc(), &WHOLE)?;
-        let mut source = DripSource::new(file.as_slice(), COUNT, FailWhen::Read(long.reads));
+        let mut source = DripSource::new(file.as_slice(), COUNT, FailWhen::Read(reads));
         let mut writer = uncalled();
         let mut sink = IoSink::new(&mut writer);
         let answer = dump(rt.alloc(), &mut source, &options, &mut [0; 4096], &mut sink);
-        assert!(rt; answer.is_ok(), "{} reads", long.reads);
+        assert!(rt; answer.is_ok(), "{reads} reads");
         assert!(rt; source.handed() <= file.len() as u128 + 4096);
-        assert!(rt; writer.writes <= long.writes, "{}", writer.writes);
+        assert!(rt; writer.writes <= writes, "{}", writer.writes);
     }
     Ok(())
 }
@@ -193,7 +141,7 @@ impl<'a> Opener for CountedFiles<'a> {
 
 #[test]
 fn run_opens_its_file_once_and_reads_it_in_few_calls(rt: HostRuntime) -> Result<(), AllocError> {
-    let file = long_file(rt.alloc(), &LONG_RECORDS)?;
+    let file = long_file(rt.alloc(), LONG_RECORDS)?;
     let listed = [MemFile {
         path: "t.nc",
         bytes: file.as_slice(),

@@ -1,13 +1,14 @@
 //! Runs of the program on a file in memory: what the words ask for, and what is answered.
 
-use devices::{MemFile, MemFiles, OpenFailed, SliceSink};
+use devices::OpenFailed::{NotFound, NotRegular, Other, PermissionDenied};
+use devices::{MemFile, MemFiles, SliceSink};
 use ncdump::{DumpOptions, command, options_of, run_with};
 use std::alloc::Global;
 use std::process::Abort;
 use std::test::Fail;
 use test_files::{
     COORDINATES, LARGE_SLAB, LONG_LINE, ONE_VARIABLE, Refusing, SMALLEST, TWO_RECORD_DIMS,
-    UNSIGNED_FILLS, patched, parts_of,
+    UNSIGNED_FILLS, parts_of, patched,
 };
 
 /// A run of the program on these words, the first one its name, with a space between two. The only file is `t.nc`, which has these bytes.
@@ -163,40 +164,25 @@ const USAGE_FAULTS: &str = "\
     ncdump -l 18446744073709551696 t.nc\n\
     ncdump -c -v s -n other -l 20 -- t.nc -h";
 
-/// Other runs that end with a line.
-static FAULTS: &[Run<'static>] = &[
-    Run {
-        words: "ncdump -v s,nope t.nc",
-        line: b"ncdump: t.nc: no such variable: item 1 of -v\n",
-        ..REFUSED
-    },
-    Run {
-        bytes: UNSIGNED_FILLS,
-        words: "ncdump -v a,,b t.nc",
-        line: b"ncdump: t.nc: no such variable: item 1 of -v\n",
-        ..REFUSED
-    },
-    Run {
-        words: "ncdump u.nc",
-        line: b"ncdump: u.nc: cannot open\n",
-        ..REFUSED
-    },
-    Run {
-        bytes: b"CDF",
-        line: b"ncdump: t.nc: header truncated\n",
-        ..REFUSED
-    },
-    Run {
-        bytes: TWO_RECORD_DIMS,
-        line: b"ncdump: t.nc: two record dimensions\n",
-        ..REFUSED
-    },
-    Run {
-        bytes: LARGE_SLAB,
-        line: b"ncdump: t.nc: too large\n",
-        ..REFUSED
-    },
-    // standard output fails, and standard error
+/// The line of a name that no variable has.
+const NO_SUCH_NAME: &[u8] = b"ncdump: t.nc: no such variable: item 1 of -v\n";
+
+/// A file, words, and the line that the run ends with.
+static FAULTS: &[(&[u8], &str, &[u8])] = &[
+    (ONE_VARIABLE, "ncdump -v s,nope t.nc", NO_SUCH_NAME),
+    (UNSIGNED_FILLS, "ncdump -v a,,b t.nc", NO_SUCH_NAME),
+    (ONE_VARIABLE, "ncdump u.nc", b"ncdump: u.nc: cannot open\n"),
+    (b"CDF", "ncdump t.nc", b"ncdump: t.nc: header truncated\n"),
+    (
+        TWO_RECORD_DIMS,
+        "ncdump t.nc",
+        b"ncdump: t.nc: two record dimensions\n",
+    ),
+    (LARGE_SLAB, "ncdump t.nc", b"ncdump: t.nc: too large\n"),
+];
+
+/// Standard output fails, and standard error.
+static FAILING: &[Run<'static>] = &[
     Run {
         bytes: SMALLEST,
         room: (8, 128),
@@ -235,49 +221,44 @@ const TRUNCATED: Run<'static> = Run {
     ..REFUSED
 };
 
-#[test]
-fn other_words_have_the_usage(rt: HostRuntime) -> Result<(), Fail> {
-    for words in USAGE_FAULTS.split('\n') {
-        expect_usage(&rt, rt.alloc(), words)?;
-    }
-    Ok(())
-}
-
-/// Fails unless these words are answered with the usage.
-fn expect_usage(rt: &impl Abort, alloc: Global, words: &str) -> Result<(), Fail> {
-    let run = Run {
-        words,
-        line: USAGE,
-        ..REFUSED
-    };
-    expect_run(rt, alloc, &run)
-}
-
-#[test]
-fn faults_have_their_lines(rt: HostRuntime) -> Result<(), Fail> {
-    for run in FAULTS {
-        expect_run(&rt, rt.alloc(), run)?;
-    }
-    for (at, byte, line) in CHANGED {
-        let file = patched(rt.alloc(), ONE_VARIABLE, *at, &[*byte])?;
-        expect_refusal(&rt, rt.alloc(), file.as_slice(), *line)?;
-    }
-    Ok(())
-}
-
-/// Fails unless the dump of a file of these bytes ends with this line.
-fn expect_refusal<'a>(
+/// Fails unless a run on a file of these bytes ends with this line.
+fn expect_line<'a>(
     rt: &impl Abort,
     alloc: Global,
     bytes: &'a [u8],
+    words: &'a str,
     line: &'a [u8],
 ) -> Result<(), Fail> {
     let run = Run {
         bytes,
+        words,
         line,
         ..REFUSED
     };
     expect_run(rt, alloc, &run)
+}
+
+#[test]
+fn other_words_have_the_usage(rt: HostRuntime) -> Result<(), Fail> {
+    for words in USAGE_FAULTS.split('\n') {
+        expect_line(&rt, rt.alloc(), ONE_VARIABLE, words, USAGE)?;
+    }
+    Ok(())
+}
+
+#[test]
+fn faults_have_their_lines(rt: HostRuntime) -> Result<(), Fail> {
+    for (bytes, words, line) in FAULTS {
+        expect_line(&rt, rt.alloc(), *bytes, *words, *line)?;
+    }
+    for run in FAILING {
+        expect_run(&rt, rt.alloc(), run)?;
+    }
+    for (at, byte, line) in CHANGED {
+        let file = patched(rt.alloc(), ONE_VARIABLE, *at, &[*byte])?;
+        expect_line(&rt, rt.alloc(), file.as_slice(), "ncdump t.nc", *line)?;
+    }
+    Ok(())
 }
 
 #[test]
@@ -289,26 +270,16 @@ fn cut_file_has_its_line(rt: HostRuntime) -> Result<(), Fail> {
 /// A file that can't be opened has its line, whatever the reason, and the opener is asked for it once.
 #[test]
 fn file_that_is_refused_has_its_line(rt: HostRuntime) {
-    for why in [
-        OpenFailed::NotFound,
-        OpenFailed::PermissionDenied,
-        OpenFailed::NotRegular,
-        OpenFailed::Other,
-    ] {
+    for why in [NotFound, PermissionDenied, NotRegular, Other] {
         let (mut text, mut line) = ([0; 16], [0; 64]);
         let mut out = SliceSink::new(&mut text, 7);
         let mut err = SliceSink::new(&mut line, 5);
         let mut files = Refusing::new(why);
         let words = ["ncdump", "t.nc"];
         let status = run_with(&mut files, rt.alloc(), &words, &mut out, &mut err);
-        assert!(rt;
-            status == 1 && out.taken().is_empty() && files.opens() == 1,
-            "{why:?}"
-        );
-        assert!(rt;
-            is_same(err.taken(), b"ncdump: t.nc: cannot open\n"),
-            "{why:?}"
-        );
+        let is_ended = status == 1 && out.taken().is_empty() && files.opens() == 1;
+        let is_told = is_same(err.taken(), b"ncdump: t.nc: cannot open\n");
+        assert!(rt; is_ended && is_told, "{why:?}");
     }
 }
 
@@ -319,7 +290,7 @@ fn long_command_lines(rt: HostRuntime) -> Result<(), Fail> {
     let mut names = String::from_str(rt.alloc(), "ncdump t.nc -nother -vv")?;
     for _ in 0..1100 {
         files.push_str(" t.nc")?;
-        expect_usage(&rt, rt.alloc(), files.as_str())?;
+        expect_line(&rt, rt.alloc(), ONE_VARIABLE, files.as_str(), USAGE)?;
         names.push_str(",v")?;
         expect_text(&rt, rt.alloc(), LONG_LINE, names.as_str(), WIDE)?;
     }

@@ -7,36 +7,34 @@ use std::alloc::{AllocError, Global};
 use std::process::Abort;
 use test_files::cut;
 
-/// A dump of a file, or of its first `len` bytes, with some bytes in place of its own from an offset on; what is shown of it, when reads
-/// fail, how it ends, and the text that it writes. `head` has the lines before the values.
+/// A dump of a file, or of its first `len` bytes; what is shown of it, when reads fail, the words of the fault that it ends with, if it has
+/// one, and the text that it writes. `chosen` has a comma between two names, or chooses none. `head` has the lines before the values.
 #[derive(Clone, Copy)]
 pub struct DumpRow<'a> {
-    pub about: &'static str,
+    pub about: &'a str,
     pub bytes: &'a [u8],
     pub len: usize,
-    pub change: (usize, &'a [u8]),
     pub head_only: bool,
     pub coords: bool,
-    pub chosen: Option<&'a [&'a [u8]]>,
+    pub chosen: Option<&'a str>,
     pub width: usize,
     pub fail: FailWhen,
-    pub answer: Result<(), DumpFault>,
+    pub fault: &'a str,
     pub head: &'a [u8],
     pub text: &'a [u8],
 }
 
-/// What rows have that say no more: all of a file, as it is, with all of its values, in lines of 80 bytes.
+/// What rows have that say no more: all of a file, with all of its values, in lines of 80 bytes.
 pub const WHOLE: DumpRow<'static> = DumpRow {
     about: "",
     bytes: b"",
     len: usize::MAX,
-    change: (0, b""),
     head_only: false,
     coords: false,
     chosen: None,
     width: 80,
     fail: FailWhen::Never,
-    answer: Ok(()),
+    fault: "",
     head: b"",
     text: b"",
 };
@@ -79,7 +77,7 @@ pub const PADDED_RECORDS: DumpRow<'static> = DumpRow {
 pub const SELECTION: DumpRow<'static> = DumpRow {
     about: "a selection of rank three",
     bytes: test_files::THREE_VARIABLES,
-    chosen: Some(&[b"b"]),
+    chosen: Some("b"),
     head: b"netcdf t {\ndimensions:\n\tt = UNLIMITED ; // (2 currently)\n\ty = 2 ;\n\tx = 2 ;\nvariables:\n\tint a(t) ;\n\tint b(t, y, x) ;\n\tint c ;\ndata:\n\n b =",
     text: b"\n  1, 2,\n  3, 4,\n  5, 6,\n  7, 8 ;\n}\n",
     ..WHOLE
@@ -119,11 +117,14 @@ pub fn options_of(alloc: Global, row: &DumpRow<'_>) -> Result<DumpOptions, Alloc
     })
 }
 
-/// These names.
-fn names_of(alloc: Global, names: &[&[u8]]) -> Result<Sequence<Sequence<u8>>, AllocError> {
+/// The names of a text, which has a comma between two.
+fn names_of(alloc: Global, names: &str) -> Result<Sequence<Sequence<u8>>, AllocError> {
     let mut sequence = Sequence::new(alloc);
-    for name in names {
-        sequence.push(Sequence::from_vec(Vec::from_slice(alloc, *name)?))?;
+    if names.is_empty() {
+        return Ok(sequence);
+    }
+    for name in names.split(',') {
+        sequence.push(Sequence::from_vec(Vec::from_slice(alloc, name.as_bytes())?))?;
     }
     Ok(sequence)
 }
@@ -135,12 +136,20 @@ pub fn text_of(alloc: Global, row: &DumpRow<'_>) -> Result<Vec<u8>, AllocError> 
     Ok(text)
 }
 
-/// What a dump with these options answers, and the text that it writes.
+/// The words of the fault that a dump with these options ends with, if it has one, and the text that it writes.
 #[derive(Clone, Copy)]
 pub struct Want<'a> {
     pub options: &'a DumpOptions,
-    pub answer: Result<(), DumpFault>,
+    pub fault: &'a str,
     pub text: &'a [u8],
+}
+
+/// Returns true if the answer is a fault that is displayed as these words, or success if there are none.
+fn is_answer(alloc: Global, answer: Result<(), DumpFault>, words: &str) -> bool {
+    match answer {
+        Ok(()) => words.is_empty(),
+        Err(fault) => format!(in alloc; "{fault}").is_ok_and(|said| said.as_str() == words),
+    }
 }
 
 /// Returns true if the source is dumped so through a buffer of `buffer_len` bytes.
@@ -156,7 +165,7 @@ pub fn is_dumped<S: Source>(
     let mut sink = MemSink::new(alloc);
     let buf = &mut space[..buffer_len];
     let answer = dump(alloc, source, want.options, buf, &mut sink);
-    answer == want.answer && sink.as_slice() == want.text
+    is_answer(alloc, answer, want.fault) && sink.as_slice() == want.text
 }
 
 /// Returns true if these bytes are dumped so through a buffer of `buffer_len` bytes, by reads that give at most so many bytes each.
@@ -180,29 +189,23 @@ pub fn is_dumped_in_steps(
 /// Fails unless the dump of the row is as it says, through buffers of several lengths. If it ends with an error, it has to be the same from
 /// a source that ends there but promises all of the file.
 pub fn expect_dump(rt: &impl Abort, alloc: Global, row: &DumpRow<'_>) -> Result<(), AllocError> {
-    let (at, change) = row.change;
-    let file = test_files::patched(alloc, row.bytes, at, change)?;
-    let bytes = &file.as_slice()[..row.len.min(file.len())];
+    let bytes = &row.bytes[..row.len.min(row.bytes.len())];
+    let (about, len) = (row.about, bytes.len());
     let text = text_of(alloc, row)?;
     let options = options_of(alloc, row)?;
     let want = Want {
         options: &options,
-        answer: row.answer,
+        fault: row.fault,
         text: text.as_slice(),
     };
     for buffer_len in [16, 17, 4096] {
         let buffer = (buffer_len, [1, 3, 7, 4096].as_slice());
         let is_right = is_dumped_in_steps(rt, alloc, (bytes, row.fail), buffer, &want);
-        assert!(rt;
-            is_right,
-            "{}, {buffer_len} bytes, {}",
-            row.about,
-            bytes.len()
-        );
-        if row.answer.is_err() && bytes.len() < file.len() {
-            let mut source = cut(file.as_slice(), bytes.len());
+        assert!(rt; is_right, "{about}, {buffer_len} bytes, {len}");
+        if !row.fault.is_empty() && len < row.bytes.len() {
+            let mut source = cut(row.bytes, len);
             let is_right = is_dumped(rt, alloc, &mut source, buffer_len, &want);
-            assert!(rt; is_right, "{}, cut at {}", row.about, bytes.len());
+            assert!(rt; is_right, "{about}, cut at {len}");
         }
     }
     Ok(())

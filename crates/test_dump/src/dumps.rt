@@ -6,330 +6,153 @@ use crate::dump_rows::{
     text_of,
 };
 use devices::{FailWhen, FileSource, Source};
-use nc_base::FormatFault;
-use ncdump::DumpFault;
 use std::alloc::{AllocError, Global};
 use std::fs;
 use std::process::Abort;
 use std::test::Fail;
+use test_files::{char_bytes, file_of, parts_of};
 
-/// Files and their dumps, with all values and in lines of 80 bytes.
-static WHOLE_FILES: &[(&[u8], &[u8])] = &[
-    (test_files::SMALLEST, b"netcdf t {\n}\n"),
-    (test_files::SMALLEST_CDF5, b"netcdf t {\n}\n"),
-    (
-        test_files::TEXT_ATTRIBUTE,
-        b"netcdf t {\n\n// global attributes:\n\t\t:note = \"a\\n\",\n\t\t\t\"b\\n\" ;\n}\n",
-    ),
-    (
-        test_files::TWO_RECORDS,
-        b"netcdf t {\ndimensions:\n\tt = UNLIMITED ; // (2 currently)\n}\n",
-    ),
-    (
-        test_files::STREAMED_RECORDS,
-        b"netcdf t {\ndimensions:\n\tt = UNLIMITED ; // (0 currently)\n}\n",
-    ),
-    (
-        test_files::NO_RECORDS,
-        b"netcdf t {\ndimensions:\n\tt = UNLIMITED ; // (0 currently)\nvariables:\n\tint v(t) ;\ndata:\n}\n",
-    ),
-    (
-        test_files::RECORDS_OFF_BOUNDARY,
-        b"netcdf t {\ndimensions:\n\tt = UNLIMITED ; // (3 currently)\n\ty = 3 ;\nvariables:\n\tshort s(t, y) ;\ndata:\n\n s =\n  1, 2, 3,\n  4, 5, 6,\n  7, 8, 9 ;\n}\n",
-    ),
-    (
-        test_files::UNSIGNED_RECORDS,
-        b"netcdf t {\ndimensions:\n\tt = UNLIMITED ; // (3 currently)\nvariables:\n\tubyte b(t) ;\ndata:\n\n b = 255, 254, 1 ;\n}\n",
-    ),
-    (
-        test_files::ESCAPED_NAMES,
-        b"netcdf t {\nvariables:\n\tint \\data ;\n\t\t\\data:units = \"m\" ;\n\tshort \\2\\ b ;\ndata:\n\n \\data = 5 ;\n\n \\2\\ b = 6 ;\n}\n",
-    ),
-    (
-        test_files::LOW_BYTE,
-        b"netcdf t {\nvariables:\n\tbyte b ;\ndata:\n\n b = -127 ;\n}\n",
-    ),
-    (
-        test_files::FILL_OF_BYTES,
-        b"netcdf t {\nvariables:\n\tbyte b ;\n\t\tb:_FillValue = -127b ;\ndata:\n\n b = _ ;\n}\n",
-    ),
-    (
-        test_files::UNSIGNED_FILLS,
-        b"netcdf t {\nvariables:\n\tubyte a ;\n\t\ta:_FillValue = 255UB ;\n\tuint64 b ;\n\t\tb:r = 0ULL, 18446744073709551615ULL ;\ndata:\n\n a = _ ;\n\n b = _ ;\n}\n",
-    ),
-    (
-        test_files::ALL_NULS,
-        b"netcdf t {\ndimensions:\n\tt = UNLIMITED ; // (2 currently)\nvariables:\n\tchar c(t) ;\ndata:\n\n c = \"\\000\\000\" ;\n}\n",
-    ),
-    (
-        test_files::ESCAPED_CHARACTERS,
-        b"netcdf t {\ndimensions:\n\tx = 6 ;\nvariables:\n\tchar c(x) ;\ndata:\n\n c = \"\\t\\\"\\\\\\177\xc3\xa9\" ;\n}\n",
-    ),
-    (
-        test_files::ROWS_OF_NULS,
-        b"netcdf t {\ndimensions:\n\tt = UNLIMITED ; // (2 currently)\n\tx = 3 ;\nvariables:\n\tchar c(t, x) ;\ndata:\n\n c =\n  \"a\",\n  \"\" ;\n}\n",
-    ),
-    (
-        test_files::ROWS_OF_NULS_AND_FILL,
-        b"netcdf t {\ndimensions:\n\tt = UNLIMITED ; // (2 currently)\n\tx = 3 ;\nvariables:\n\tchar c(t, x) ;\n\t\tc:_FillValue = \"x\" ;\ndata:\n\n c =\n  \"a\\000\\000\",\n  \"\\000\\000\\000\" ;\n}\n",
-    ),
-];
-
-/// Two coordinate variables.
-const COORDINATES: DumpRow<'static> = DumpRow {
-    about: "coordinate variables",
-    bytes: test_files::COORDINATES,
-    coords: true,
-    head: b"netcdf t {\ndimensions:\n\tx = 2 ;\nvariables:\n\tint x(x) ;\n\tint y(x) ;\ndata:\n",
-    text: b"\n x = 1, 2 ;\n}\n",
-    ..WHOLE
-};
+/// Files and their dumps, with all values and in lines of 80 bytes. A row of this text and of those below has the words of a file
+/// (`file_of`), what is said of the dump (`say`), the words of the fault that it ends with, and its text, with `^` for a line feed and `~`
+/// for a tab.
+const WHOLE_FILES: &str = r#"
+SMALLEST|||netcdf t {^}^
+SMALLEST_CDF5|||netcdf t {^}^
+TEXT_ATTRIBUTE|||netcdf t {^^// global attributes:^~~:note = "a\n",^~~~"b\n" ;^}^
+TWO_RECORDS|||netcdf t {^dimensions:^~t = UNLIMITED ; // (2 currently)^}^
+STREAMED_RECORDS|||netcdf t {^dimensions:^~t = UNLIMITED ; // (0 currently)^}^
+NO_RECORDS|||netcdf t {^dimensions:^~t = UNLIMITED ; // (0 currently)^variables:^~int v(t) ;^data:^}^
+RECORDS_OFF_BOUNDARY|||netcdf t {^dimensions:^~t = UNLIMITED ; // (3 currently)^~y = 3 ;^variables:^~short s(t, y) ;^data:^^ s =^  1, 2, 3,^  4, 5, 6,^  7, 8, 9 ;^}^
+UNSIGNED_RECORDS|||netcdf t {^dimensions:^~t = UNLIMITED ; // (3 currently)^variables:^~ubyte b(t) ;^data:^^ b = 255, 254, 1 ;^}^
+ESCAPED_NAMES|||netcdf t {^variables:^~int \data ;^~~\data:units = "m" ;^~short \2\ b ;^data:^^ \data = 5 ;^^ \2\ b = 6 ;^}^
+LOW_BYTE|||netcdf t {^variables:^~byte b ;^data:^^ b = -127 ;^}^
+FILL_OF_BYTES|||netcdf t {^variables:^~byte b ;^~~b:_FillValue = -127b ;^data:^^ b = _ ;^}^
+UNSIGNED_FILLS|||netcdf t {^variables:^~ubyte a ;^~~a:_FillValue = 255UB ;^~uint64 b ;^~~b:r = 0ULL, 18446744073709551615ULL ;^data:^^ a = _ ;^^ b = _ ;^}^
+ALL_NULS|||netcdf t {^dimensions:^~t = UNLIMITED ; // (2 currently)^variables:^~char c(t) ;^data:^^ c = "\000\000" ;^}^
+ESCAPED_CHARACTERS|||netcdf t {^dimensions:^~x = 6 ;^variables:^~char c(x) ;^data:^^ c = "\t\"\\\177Ã©" ;^}^
+ROWS_OF_NULS|||netcdf t {^dimensions:^~t = UNLIMITED ; // (2 currently)^~x = 3 ;^variables:^~char c(t, x) ;^data:^^ c =^  "a",^  "" ;^}^
+ROWS_OF_NULS_AND_FILL|||netcdf t {^dimensions:^~t = UNLIMITED ; // (2 currently)^~x = 3 ;^variables:^~char c(t, x) ;^~~c:_FillValue = "x" ;^data:^^ c =^  "a\000\000",^  "\000\000\000" ;^}^
+"#;
 
 /// Dumps of the header alone, and of some of the variables.
-static SELECTIONS: [DumpRow<'static>; 11] = [
-    DumpRow {
-        about: "the head of one variable",
-        bytes: test_files::ONE_VARIABLE,
-        head_only: true,
-        text: b"netcdf t {\ndimensions:\n\tx = 3 ;\nvariables:\n\tshort s(x) ;\n}\n",
-        ..WHOLE
-    },
-    DumpRow {
-        about: "the head of escaped names",
-        bytes: test_files::ESCAPED_NAMES,
-        head_only: true,
-        text: b"netcdf t {\nvariables:\n\tint \\data ;\n\t\t\\data:units = \"m\" ;\n\tshort \\2\\ b ;\n}\n",
-        ..WHOLE
-    },
-    DumpRow {
-        about: "the head of a byte",
-        bytes: test_files::LOW_BYTE,
-        head_only: true,
-        text: b"netcdf t {\nvariables:\n\tbyte b ;\n}\n",
-        ..WHOLE
-    },
-    DumpRow {
-        about: "the head of a fill value of bytes",
-        bytes: test_files::FILL_OF_BYTES,
-        head_only: true,
-        text: b"netcdf t {\nvariables:\n\tbyte b ;\n\t\tb:_FillValue = -127b ;\n}\n",
-        ..WHOLE
-    },
-    DumpRow {
-        about: "a hostile count",
-        bytes: test_files::HOSTILE_COUNT,
-        answer: Err(DumpFault::Format(FormatFault::HeaderTruncated)),
-        ..WHOLE
-    },
-    SELECTION,
-    COORDINATES,
-    DumpRow {
-        about: "coordinate variables that are not chosen",
-        chosen: Some(&[b"y"]),
-        text: b"}\n",
-        ..COORDINATES
-    },
-    DumpRow {
-        about: "no name is chosen",
-        coords: false,
-        chosen: Some(&[]),
-        text: b"}\n",
-        ..COORDINATES
-    },
-    DumpRow {
-        about: "an unknown name",
-        bytes: test_files::ONE_VARIABLE,
-        chosen: Some(&[b"s", b"nope"]),
-        answer: Err(DumpFault::NoSuchVariable(1)),
-        ..WHOLE
-    },
-    DumpRow {
-        about: "an unknown name and the head alone",
-        bytes: test_files::ONE_VARIABLE,
-        head_only: true,
-        chosen: Some(&[b"s", b"", b"s"]),
-        answer: Err(DumpFault::NoSuchVariable(1)),
-        ..WHOLE
-    },
-];
+const SELECTIONS: &str = r#"
+# heads: of one variable, of escaped names, of a byte, and of a fill value of bytes
+ONE_VARIABLE|head||netcdf t {^dimensions:^~x = 3 ;^variables:^~short s(x) ;^}^
+ESCAPED_NAMES|head||netcdf t {^variables:^~int \data ;^~~\data:units = "m" ;^~short \2\ b ;^}^
+LOW_BYTE|head||netcdf t {^variables:^~byte b ;^}^
+FILL_OF_BYTES|head||netcdf t {^variables:^~byte b ;^~~b:_FillValue = -127b ;^}^
+# a hostile count
+HOSTILE_COUNT||header truncated|
+# coordinate variables, also such that are not chosen, and no name is chosen
+COORDINATES|coords||netcdf t {^dimensions:^~x = 2 ;^variables:^~int x(x) ;^~int y(x) ;^data:^^ x = 1, 2 ;^}^
+COORDINATES|coords names=y||netcdf t {^dimensions:^~x = 2 ;^variables:^~int x(x) ;^~int y(x) ;^data:^}^
+COORDINATES|names=||netcdf t {^dimensions:^~x = 2 ;^variables:^~int x(x) ;^~int y(x) ;^data:^}^
+# an unknown name, also with the head alone
+ONE_VARIABLE|names=s,nope|no such variable: item 1 of -v|
+ONE_VARIABLE|head names=s,,s|no such variable: item 1 of -v|
+"#;
 
-/// `short m(y, x)`, y = 2, x = 3, with 10000, 20000, 30000, and 1, 2, 3: the first row takes two lines of 20 bytes.
-const LONG_ROW: &[u8] = b"CDF\x01\0\0\0\0\
-    \0\0\0\x0a\0\0\0\x02\
-    \0\0\0\x01y\0\0\0\0\0\0\x02\
-    \0\0\0\x01x\0\0\0\0\0\0\x03\
-    \0\0\0\0\0\0\0\0\
-    \0\0\0\x0b\0\0\0\x01\
-    \0\0\0\x01m\0\0\0\
-    \0\0\0\x02\0\0\0\0\0\0\0\x01\
-    \0\0\0\0\0\0\0\0\
-    \0\0\0\x03\0\0\0\x0c\0\0\0\x60\
-    \x27\x10\x4e\x20\x75\x30\
-    \0\x01\0\x02\0\x03";
-
-/// Dumps that other tests have rows of, and dumps in lines of 20 bytes.
-static VALUES: [DumpRow<'static>; 11] = [
+/// Dumps that other tests have rows of.
+static SHARED: &[DumpRow<'static>] = &[
     ONE_VARIABLE,
-    DumpRow {
-        about: "one variable of CDF-2",
-        bytes: test_files::ONE_VARIABLE_CDF2,
-        ..ONE_VARIABLE
-    },
     ONE_VARIABLE_CDF5,
-    DumpRow {
-        about: "all of three variables",
-        chosen: None,
-        head: b"netcdf t {\ndimensions:\n\tt = UNLIMITED ; // (2 currently)\n\ty = 2 ;\n\tx = 2 ;\nvariables:\n\tint a(t) ;\n\tint b(t, y, x) ;\n\tint c ;\ndata:\n",
-        text: b"\n a = 10, 20 ;\n\n b =\n  1, 2,\n  3, 4,\n  5, 6,\n  7, 8 ;\n\n c = 7 ;\n}\n",
-        ..SELECTION
-    },
     RECORD_BYTES,
     PADDED_RECORDS,
-    DumpRow {
-        about: "a line of 20 bytes in full",
-        bytes: test_files::SHORT_LINE,
-        width: 20,
-        text: b"netcdf t {\ndimensions:\n\tx = 3 ;\nvariables:\n\tint v(x) ;\ndata:\n\n v = 100, 200, 300 ;\n}\n",
-        ..WHOLE
-    },
-    DumpRow {
-        about: "two lines of 20 bytes",
-        bytes: test_files::LONG_LINE,
-        width: 20,
-        text: b"netcdf t {\ndimensions:\n\tx = 3 ;\nvariables:\n\tint v(x) ;\ndata:\n\n v = 100, 200, \n    3000 ;\n}\n",
-        ..WHOLE
-    },
-    DumpRow {
-        about: "a row in lines of 20 bytes",
-        bytes: LONG_ROW,
-        width: 20,
-        text: b"netcdf t {\ndimensions:\n\ty = 2 ;\n\tx = 3 ;\nvariables:\n\tshort m(y, x) ;\ndata:\n\n m =\n  10000, 20000, \n    30000,\n  1, 2, 3 ;\n}\n",
-        ..WHOLE
-    },
+    SELECTION,
     HELD_NULS,
     MANY_HELD_NULS,
 ];
 
-/// Dumps of files that are changed where that is no fault, or the fault of a value, and of a source that fails.
-static CHANGED: [DumpRow<'static>; 11] = [
-    DumpRow {
-        about: "padding that is not 0",
-        change: (21, b"\xff"),
-        ..ONE_VARIABLE
-    },
-    DumpRow {
-        about: "a wrong vsize",
-        change: (72, b"\xff\xff\xff\xff"),
-        ..ONE_VARIABLE
-    },
-    DumpRow {
-        about: "streaming records",
-        change: (4, b"\xff\xff\xff\xff"),
-        len: 139,
-        head: b"",
-        text: b"netcdf t {\ndimensions:\n\tt = UNLIMITED ; // (2 currently)\nvariables:\n\tbyte b(t) ;\n\tshort s(t) ;\ndata:\n\n b = 1, 2 ;\n\n s = 4, 5 ;\n}\n",
-        ..PADDED_RECORDS
-    },
-    DumpRow {
-        about: "held back NULs before a missing value",
-        len: 83,
-        answer: Err(DumpFault::DataTruncated { var: 0, value: 3 }),
-        text: b" \"a",
-        ..HELD_NULS
-    },
-    DumpRow {
-        about: "a hostile number of records",
-        change: (4, b"\x7f\xff\xff\xff"),
-        answer: Err(DumpFault::DataTruncated { var: 0, value: 3 }),
-        head: b"",
-        text: b"netcdf t {\ndimensions:\n\tt = UNLIMITED ; // (2147483647 currently)\nvariables:\n\tbyte b(t) ;\ndata:\n\n b = 1, 2, 3",
-        ..RECORD_BYTES
-    },
-    DumpRow {
-        about: "values in the header",
-        change: (76, b"\0\0\0\0"),
-        text: b" 17220, 17921, 0 ;\n}\n",
-        ..ONE_VARIABLE
-    },
-    DumpRow {
-        about: "the greatest offset",
-        bytes: test_files::ONE_VARIABLE_CDF2,
-        change: (76, b"\x7f\xff\xff\xff\xff\xff\xff\xff"),
-        answer: Err(DumpFault::DataTruncated { var: 0, value: 0 }),
-        text: b"",
-        ..ONE_VARIABLE
-    },
-    DumpRow {
-        about: "two record dimensions",
-        bytes: test_files::TWO_RECORD_DIMS,
-        answer: Err(DumpFault::Format(FormatFault::TwoRecordDims)),
-        ..WHOLE
-    },
-    DumpRow {
-        about: "a slab past its limit",
-        bytes: test_files::LARGE_SLAB,
-        answer: Err(DumpFault::Format(FormatFault::TooLarge)),
-        ..WHOLE
-    },
-    DumpRow {
-        about: "an offset with its top bit set",
-        change: (76, b"\x80"),
-        answer: Err(DumpFault::Format(FormatFault::BadOffset)),
-        head: b"",
-        text: b"",
-        ..ONE_VARIABLE
-    },
-    DumpRow {
-        about: "reads of values fail",
-        fail: FailWhen::From(80),
-        answer: Err(DumpFault::ReadFailed),
-        text: b"",
-        ..ONE_VARIABLE
-    },
-];
+/// Dumps of values, also in lines of 20 bytes.
+const VALUES: &str = r#"
+ONE_VARIABLE_CDF2|||netcdf t {^dimensions:^~x = 3 ;^variables:^~short s(x) ;^data:^^ s = 1, _, 3 ;^}^
+THREE_VARIABLES|||netcdf t {^dimensions:^~t = UNLIMITED ; // (2 currently)^~y = 2 ;^~x = 2 ;^variables:^~int a(t) ;^~int b(t, y, x) ;^~int c ;^data:^^ a = 10, 20 ;^^ b =^  1, 2,^  3, 4,^  5, 6,^  7, 8 ;^^ c = 7 ;^}^
+# a line of 20 bytes in full, two lines, and a row in two lines
+SHORT_LINE|width=20||netcdf t {^dimensions:^~x = 3 ;^variables:^~int v(x) ;^data:^^ v = 100, 200, 300 ;^}^
+LONG_LINE|width=20||netcdf t {^dimensions:^~x = 3 ;^variables:^~int v(x) ;^data:^^ v = 100, 200, ^    3000 ;^}^
+LONG_ROW|width=20||netcdf t {^dimensions:^~y = 2 ;^~x = 3 ;^variables:^~short m(y, x) ;^data:^^ m =^  10000, 20000, ^    30000,^  1, 2, 3 ;^}^
+"#;
 
-/// Fails unless each dump is as its row says.
-fn expect_dumps(rt: &impl Abort, alloc: Global, rows: &[DumpRow<'_>]) -> Result<(), AllocError> {
-    for row in rows {
-        expect_dump(rt, alloc, row)?;
+/// Dumps of files that are changed where that is no fault, or the fault of a value, and of a source that fails.
+const CHANGED: &str = r#"
+# padding that is not 0, and a wrong vsize
+ONE_VARIABLE 21=ff|||netcdf t {^dimensions:^~x = 3 ;^variables:^~short s(x) ;^data:^^ s = 1, _, 3 ;^}^
+ONE_VARIABLE 72=ffffffff|||netcdf t {^dimensions:^~x = 3 ;^variables:^~short s(x) ;^data:^^ s = 1, _, 3 ;^}^
+# streaming records
+PADDED_RECORDS 4=ffffffff|len=139||netcdf t {^dimensions:^~t = UNLIMITED ; // (2 currently)^variables:^~byte b(t) ;^~short s(t) ;^data:^^ b = 1, 2 ;^^ s = 4, 5 ;^}^
+# held back NULs before a missing value
+HELD_NULS|len=83|variable 0: data truncated at value 3|netcdf t {^dimensions:^~x = 5 ;^variables:^~char c(x) ;^data:^^ c = "a
+# a hostile number of records
+RECORD_BYTES 4=7fffffff||variable 0: data truncated at value 3|netcdf t {^dimensions:^~t = UNLIMITED ; // (2147483647 currently)^variables:^~byte b(t) ;^data:^^ b = 1, 2, 3
+# values in the header
+ONE_VARIABLE 76=00000000|||netcdf t {^dimensions:^~x = 3 ;^variables:^~short s(x) ;^data:^^ s = 17220, 17921, 0 ;^}^
+# the greatest offset
+ONE_VARIABLE_CDF2 76=7fffffffffffffff||variable 0: data truncated at value 0|netcdf t {^dimensions:^~x = 3 ;^variables:^~short s(x) ;^data:^^ s =
+# two record dimensions, a slab past its limit, and an offset with its top bit set
+TWO_RECORD_DIMS||two record dimensions|
+LARGE_SLAB||too large|
+ONE_VARIABLE 76=80||bad offset|
+# reads of values fail
+ONE_VARIABLE|fails=80|read failed|netcdf t {^dimensions:^~x = 3 ;^variables:^~short s(x) ;^data:^^ s =
+"#;
+
+/// Adds to a row what a word says: `head` or `coords`, that no more is shown; `names=a,b` that are chosen; lines of `width=20` bytes;
+/// `len=83` bytes of the file; and reads that fail from the offset `fails=80` on.
+fn say<'a>(row: &mut DumpRow<'a>, word: &'a str) {
+    let (name, value) = word.split_once('=').unwrap_or((word, ""));
+    let number = value.parse().unwrap_or(0);
+    match name {
+        "head" => row.head_only = true,
+        "coords" => row.coords = true,
+        "names" => row.chosen = Some(value),
+        "width" => row.width = number,
+        "len" => row.len = number,
+        "fails" => row.fail = FailWhen::From(number as u64),
+        _ => {}
     }
-    Ok(())
+}
+
+/// Fails unless the dump is as this row of a text says.
+fn expect_row(rt: &impl Abort, alloc: Global, row: &str) -> Result<(), AllocError> {
+    let cells = parts_of(alloc, row, '|')?;
+    let [words, said, fault, text] = cells.as_slice() else {
+        panic!(rt; "{row}");
+    };
+    let (file, text) = (file_of(alloc, *words)?, char_bytes(alloc, *text)?);
+    let mut dump = DumpRow {
+        about: row,
+        bytes: file.as_slice(),
+        fault: *fault,
+        text: text.as_slice(),
+        ..WHOLE
+    };
+    for word in said.split(' ') {
+        say(&mut dump, word);
+    }
+    expect_dump(rt, alloc, &dump)
 }
 
 #[test]
 fn dumps_of_files(rt: HostRuntime) -> Result<(), AllocError> {
-    for (bytes, text) in WHOLE_FILES {
-        expect_whole(&rt, rt.alloc(), *bytes, *text)?;
+    for row in SHARED {
+        expect_dump(&rt, rt.alloc(), row)?;
     }
-    expect_dumps(&rt, rt.alloc(), &SELECTIONS)?;
-    expect_dumps(&rt, rt.alloc(), &VALUES)?;
-    expect_dumps(&rt, rt.alloc(), &CHANGED)
-}
-
-/// Fails unless these bytes are dumped whole as this text.
-fn expect_whole<'a>(
-    rt: &impl Abort,
-    alloc: Global,
-    bytes: &'a [u8],
-    text: &'a [u8],
-) -> Result<(), AllocError> {
-    let row = DumpRow {
-        about: "a whole file",
-        bytes,
-        text,
-        ..WHOLE
-    };
-    expect_dump(rt, alloc, &row)
+    for table in [WHOLE_FILES, SELECTIONS, VALUES, CHANGED] {
+        for row in table.split('\n') {
+            if !row.is_empty() && !row.starts_with('#') {
+                expect_row(&rt, rt.alloc(), row)?;
+            }
+        }
+    }
+    Ok(())
 }
 
 /// A selection through each buffer of 16 to 40 bytes, by reads of at most 1 to 9 bytes.
 #[test]
 fn selection_through_every_buffer(rt: HostRuntime) -> Result<(), Fail> {
     for buffer_len in 16..=40 {
-        assert!(rt;
-            is_dumped_through(&rt, rt.alloc(), &SELECTION, buffer_len)?,
-            "{buffer_len} bytes"
-        );
+        let is_right = is_dumped_through(&rt, rt.alloc(), &SELECTION, buffer_len)?;
+        assert!(rt; is_right, "{buffer_len} bytes");
     }
     Ok(())
 }
@@ -345,60 +168,40 @@ fn is_dumped_through(
     let text = text_of(alloc, row)?;
     let want = Want {
         options: &options,
-        answer: Ok(()),
+        fault: "",
         text: text.as_slice(),
     };
     let buffer = (buffer_len, [1, 2, 3, 4, 5, 6, 7, 8, 9].as_slice());
     Ok(is_dumped_in_steps(rt, alloc, (row.bytes, row.fail), buffer, &want))
 }
 
-/// The last of some lengths of a file, which begin after those before, the variable and the value that is missing first, if one is, and the
-/// text after the head.
-type Cut = (usize, Option<(usize, u128)>, &'static [u8]);
+/// Files that are cut after their header, or in the padding at their end: blocks with an empty line between two. The first line of a block
+/// has the name of a file, the length of its header, and the text before its values; each other one the last of some lengths, which begin
+/// after those before, the words of the fault, and the text after that. All prefixes of a header are refused.
+const CUT_FILES: &str =
+    r"ONE_VARIABLE|80|netcdf t {^dimensions:^~x = 3 ;^variables:^~short s(x) ;^data:^^ s =
+81|variable 0: data truncated at value 0|
+83|variable 0: data truncated at value 1| 1
+85|variable 0: data truncated at value 2| 1, _
+88|| 1, _, 3 ;^}^
 
-/// Files that are cut after their header, or in the padding at their end. All prefixes of a header are refused.
-static CUT_FILES: &[(DumpRow<'static>, usize, &[Cut])] = &[
-    (
-        ONE_VARIABLE,
-        80,
-        &[
-            (81, Some((0, 0)), b""),
-            (83, Some((0, 1)), b" 1"),
-            (85, Some((0, 2)), b" 1, _"),
-            (88, None, b" 1, _, 3 ;\n}\n"),
-        ],
-    ),
-    (
-        ONE_VARIABLE_CDF5,
-        128,
-        &[
-            (129, Some((0, 0)), b""),
-            (131, Some((0, 1)), b" 1"),
-            (133, Some((0, 2)), b" 1, _"),
-            (136, None, b" 1, _, 3 ;\n}\n"),
-        ],
-    ),
-    (
-        RECORD_BYTES,
-        80,
-        &[
-            (80, Some((0, 0)), b""),
-            (81, Some((0, 1)), b" 1"),
-            (82, Some((0, 2)), b" 1, 2"),
-        ],
-    ),
-    (
-        PADDED_RECORDS,
-        116,
-        &[
-            (116, Some((0, 0)), b""),
-            (124, Some((0, 1)), b" 1"),
-            (132, Some((0, 2)), b" 1, 2"),
-            (137, Some((1, 2)), b" 1, 2, 3 ;\n\n s = 4, 5"),
-            (140, None, b" 1, 2, 3 ;\n\n s = 4, 5, 6 ;\n}\n"),
-        ],
-    ),
-];
+ONE_VARIABLE_CDF5|128|netcdf t {^dimensions:^~x = 3 ;^variables:^~short s(x) ;^data:^^ s =
+129|variable 0: data truncated at value 0|
+131|variable 0: data truncated at value 1| 1
+133|variable 0: data truncated at value 2| 1, _
+136|| 1, _, 3 ;^}^
+
+RECORD_BYTES|80|netcdf t {^dimensions:^~t = UNLIMITED ; // (3 currently)^variables:^~byte b(t) ;^data:^^ b =
+80|variable 0: data truncated at value 0|
+81|variable 0: data truncated at value 1| 1
+82|variable 0: data truncated at value 2| 1, 2
+
+PADDED_RECORDS|116|netcdf t {^dimensions:^~t = UNLIMITED ; // (3 currently)^variables:^~byte b(t) ;^~short s(t) ;^data:^^ b =
+116|variable 0: data truncated at value 0|
+124|variable 0: data truncated at value 1| 1
+132|variable 0: data truncated at value 2| 1, 2
+137|variable 1: data truncated at value 2| 1, 2, 3 ;^^ s = 4, 5
+140|| 1, 2, 3 ;^^ s = 4, 5, 6 ;^}^";
 
 /// Fails unless the file is dumped so if it is cut to each of these lengths.
 fn expect_lens(
@@ -423,47 +226,65 @@ fn expect_cut_header(
     let tiny = DumpRow {
         about: "a cut header",
         bytes,
-        answer: Err(DumpFault::Format(FormatFault::NotNetcdf)),
+        fault: "not a netCDF classic file",
         ..WHOLE
     };
     let longer = DumpRow {
-        answer: Err(DumpFault::Format(FormatFault::HeaderTruncated)),
+        fault: "header truncated",
         ..tiny
     };
     expect_lens(rt, alloc, tiny, (0, 2))?;
     expect_lens(rt, alloc, longer, (3, header_len.saturating_sub(1)))
 }
 
-/// Fails unless prefixes of the file that end after its header are dumped so.
-fn expect_cuts(
+/// Fails unless prefixes of a file are dumped as a line says, from the length `from` up to that of the line. Returns the next length.
+fn expect_cut(
     rt: &impl Abort,
     alloc: Global,
-    row: &DumpRow<'_>,
-    header_len: usize,
-    cuts: &[Cut],
-) -> Result<(), AllocError> {
-    let mut from = header_len;
-    for (to, missing, text) in cuts {
-        let answer = match *missing {
-            Some((var, value)) => Err(DumpFault::DataTruncated { var, value }),
-            None => Ok(()),
-        };
-        let cut = DumpRow {
-            answer,
-            text: *text,
-            ..*row
-        };
-        expect_lens(rt, alloc, cut, (from, *to))?;
-        from = to.saturating_add(1);
+    row: DumpRow<'_>,
+    from: usize,
+    line: &str,
+) -> Result<usize, AllocError> {
+    let cells = parts_of(alloc, line, '|')?;
+    let [to, fault, text] = cells.as_slice() else {
+        panic!(rt; "{line}");
+    };
+    let (to, text) = (to.parse().unwrap_or(0usize), char_bytes(alloc, *text)?);
+    let cut = DumpRow {
+        fault: *fault,
+        text: text.as_slice(),
+        ..row
+    };
+    expect_lens(rt, alloc, cut, (from, to))?;
+    Ok(to.saturating_add(1))
+}
+
+/// Fails unless prefixes of the file of this block are dumped as it says.
+fn expect_cuts(rt: &impl Abort, alloc: Global, block: &str) -> Result<(), AllocError> {
+    let (first, cuts) = block.split_once('\n').unwrap_or((block, ""));
+    let cells = parts_of(alloc, first, '|')?;
+    let [name, header_len, head] = cells.as_slice() else {
+        panic!(rt; "{first}");
+    };
+    let (file, head) = (file_of(alloc, *name)?, char_bytes(alloc, *head)?);
+    let row = DumpRow {
+        about: first,
+        bytes: file.as_slice(),
+        head: head.as_slice(),
+        ..WHOLE
+    };
+    let mut from = header_len.parse().unwrap_or(0);
+    expect_cut_header(rt, alloc, row.bytes, from)?;
+    for line in cuts.split('\n') {
+        from = expect_cut(rt, alloc, row, from, line)?;
     }
     Ok(())
 }
 
 #[test]
 fn dumps_of_cut_files(rt: HostRuntime) -> Result<(), AllocError> {
-    for (row, header_len, cuts) in CUT_FILES {
-        expect_cut_header(&rt, rt.alloc(), row.bytes, *header_len)?;
-        expect_cuts(&rt, rt.alloc(), row, *header_len, *cuts)?;
+    for block in CUT_FILES.split("\n\n") {
+        expect_cuts(&rt, rt.alloc(), block)?;
     }
     Ok(())
 }
@@ -479,7 +300,7 @@ fn is_dumped_as<S: Source>(
     let text = text_of(alloc, row)?;
     let want = Want {
         options: &options,
-        answer: row.answer,
+        fault: row.fault,
         text: text.as_slice(),
     };
     Ok(is_dumped(rt, alloc, source, 16, &want))

@@ -182,18 +182,10 @@ fn each_read_fails(rt: &impl Abort, alloc: Global, tried: &Tried<'_>) {
 /// Dumps into slices of each length up to that of the text. They are filled.
 fn each_write_fails(rt: &impl Abort, alloc: Global, tried: &Tried<'_>) {
     for room in 0..=tried.text.len() {
-        let is_whole = ends_well(
-            rt,
-            alloc,
-            tried,
-            FailWhen::Never,
-            room,
-            DumpFault::WriteFailed,
-        );
-        assert!(rt;
-            is_whole == (room == tried.text.len()),
-            "room for {room} bytes"
-        );
+        let (never, fault) = (FailWhen::Never, DumpFault::WriteFailed);
+        let is_whole = ends_well(rt, alloc, tried, never, room, fault);
+        let is_right = is_whole == (room == tried.text.len());
+        assert!(rt; is_right, "room for {room} bytes");
     }
 }
 

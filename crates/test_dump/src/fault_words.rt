@@ -7,7 +7,8 @@ use devices::{
 use nc_base::FormatFault;
 use nc_file::{HeadFault, OffsetTooLarge};
 use nc_walk::WalkFault;
-use ncdump::{DumpFault, fault_line};
+use ncdump::DumpFault::{self, DataTruncated, Format, NoSuchVariable};
+use ncdump::fault_line;
 use std::alloc::Global;
 use std::error::Error;
 use std::test::Fail;
@@ -17,39 +18,21 @@ static FAULTS: &[(DumpFault, &str)] = &[
     (DumpFault::OutOfMemory, "out of memory"),
     (DumpFault::ReadFailed, "read failed"),
     (DumpFault::WriteFailed, "write failed"),
+    (Format(FormatFault::NotNetcdf), "not a netCDF classic file"),
+    (Format(FormatFault::UnknownVersion(7)), "unknown version 7"),
+    (Format(FormatFault::HeaderTruncated), "header truncated"),
+    (Format(FormatFault::BadTag), "bad tag"),
+    (Format(FormatFault::BadCount), "bad count"),
+    (Format(FormatFault::BadName), "bad name"),
+    (Format(FormatFault::FloatingType), "floating type"),
+    (Format(FormatFault::BadType), "bad type"),
+    (Format(FormatFault::BadShape), "bad shape"),
+    (Format(FormatFault::TwoRecordDims), "two record dimensions"),
+    (Format(FormatFault::BadOffset), "bad offset"),
+    (Format(FormatFault::TooLarge), "too large"),
+    (NoSuchVariable(3), "no such variable: item 3 of -v"),
     (
-        DumpFault::Format(FormatFault::NotNetcdf),
-        "not a netCDF classic file",
-    ),
-    (
-        DumpFault::Format(FormatFault::UnknownVersion(7)),
-        "unknown version 7",
-    ),
-    (
-        DumpFault::Format(FormatFault::HeaderTruncated),
-        "header truncated",
-    ),
-    (DumpFault::Format(FormatFault::BadTag), "bad tag"),
-    (DumpFault::Format(FormatFault::BadCount), "bad count"),
-    (DumpFault::Format(FormatFault::BadName), "bad name"),
-    (
-        DumpFault::Format(FormatFault::FloatingType),
-        "floating type",
-    ),
-    (DumpFault::Format(FormatFault::BadType), "bad type"),
-    (DumpFault::Format(FormatFault::BadShape), "bad shape"),
-    (
-        DumpFault::Format(FormatFault::TwoRecordDims),
-        "two record dimensions",
-    ),
-    (DumpFault::Format(FormatFault::BadOffset), "bad offset"),
-    (DumpFault::Format(FormatFault::TooLarge), "too large"),
-    (
-        DumpFault::NoSuchVariable(3),
-        "no such variable: item 3 of -v",
-    ),
-    (
-        DumpFault::DataTruncated { var: 2, value: 700 },
+        DataTruncated { var: 2, value: 700 },
         "variable 2: data truncated at value 700",
     ),
 ];
@@ -92,11 +75,6 @@ fn errors_have_the_words_of_their_lines(rt: HostRuntime) {
     assert!(rt; says(alloc, HeadFault::Format(FormatFault::BadTag), "bad tag"));
     assert!(rt; says(alloc, OffsetTooLarge, "offset too large"));
     assert!(rt; says(alloc, WalkFault::ReadFailed, "read failed"));
-    assert!(rt;
-        says(
-            alloc,
-            WalkFault::DataTruncated(12),
-            "data truncated at value 12"
-        )
-    );
+    let truncated = WalkFault::DataTruncated(12);
+    assert!(rt; says(alloc, truncated, "data truncated at value 12"));
 }

@@ -4,7 +4,8 @@ use crate::dump_rows::{DumpRow, WHOLE, options_of};
 use devices::MemSource;
 use nc_base::Sequence;
 use nc_file::read_header;
-use ncdump::{DumpFault, DumpOptions, select};
+use ncdump::DumpFault::{self, NoSuchVariable};
+use ncdump::{DumpOptions, select};
 use std::alloc::{AllocError, Global};
 use std::test::Fail;
 use test_files::{COORDINATES, ONE_VARIABLE, THREE_VARIABLES, repeated};
@@ -27,43 +28,18 @@ fn selects(
 
 #[test]
 fn selected_variables(rt: HostRuntime) -> Result<(), Fail> {
-    static ROWS: &[(&[u8], bool, Option<&[&[u8]]>, Result<&[bool], DumpFault>)] = &[
+    static ROWS: &[(&[u8], bool, Option<&str>, Result<&[bool], DumpFault>)] = &[
         // the variables x and y
         (COORDINATES, false, None, Ok(&[true, true])),
         (COORDINATES, true, None, Ok(&[true, false])),
-        (COORDINATES, false, Some(&[b"y", b"y"]), Ok(&[false, true])),
-        (COORDINATES, true, Some(&[b"y", b"y"]), Ok(&[false, false])),
-        (
-            COORDINATES,
-            false,
-            Some(&[b"y", b"z", b"a"]),
-            Err(DumpFault::NoSuchVariable(1)),
-        ),
-        (
-            COORDINATES,
-            true,
-            Some(&[b"z", b"x", b"a"]),
-            Err(DumpFault::NoSuchVariable(0)),
-        ),
-        (
-            COORDINATES,
-            false,
-            Some(&[b"x", b"x", b""]),
-            Err(DumpFault::NoSuchVariable(2)),
-        ),
+        (COORDINATES, false, Some("y,y"), Ok(&[false, true])),
+        (COORDINATES, true, Some("y,y"), Ok(&[false, false])),
+        (COORDINATES, false, Some("y,z,a"), Err(NoSuchVariable(1))),
+        (COORDINATES, true, Some("z,x,a"), Err(NoSuchVariable(0))),
+        (COORDINATES, false, Some("x,x,"), Err(NoSuchVariable(2))),
         // a, b and c; and s alone
-        (
-            THREE_VARIABLES,
-            false,
-            Some(&[b"b"]),
-            Ok(&[false, true, false]),
-        ),
-        (
-            ONE_VARIABLE,
-            false,
-            Some(&[b"s", b"nope"]),
-            Err(DumpFault::NoSuchVariable(1)),
-        ),
+        (THREE_VARIABLES, false, Some("b"), Ok(&[false, true, false])),
+        (ONE_VARIABLE, false, Some("s,nope"), Err(NoSuchVariable(1))),
     ];
     for (bytes, coords, chosen, want) in ROWS {
         let row = DumpRow {
