@@ -12,10 +12,7 @@ use nc_walk::{record_slabs, write_data};
 use std::alloc::{AllocError, Global};
 use std::process::Abort;
 use std::test::Fail;
-use test_files::{
-    MANY_HELD_NULS, NO_RECORDS, ONE_VARIABLE, PADDED_RECORDS, RECORD_BYTES, RECORDS_OFF_BOUNDARY,
-    THREE_VARIABLES, UNSIGNED_FILLS, patched,
-};
+use test_files::{ONE_VARIABLE, file_of, hex_bytes, parts_of, patched};
 
 /// Returns true if these bytes are the first values of a variable, or all of them.
 fn is_listed(header: &Header, v: usize, listed: &ListedArray) -> bool
@@ -51,26 +48,26 @@ fn are_listed(header: &Header, arrays: &[ListedArray]) -> bool
     true
 }
 
-/// The bytes that are listed of a variable, row by row, and how many each row lacks, if it ends there. These are filled up with dots.
-type Listed = &'static [(&'static [u8], Option<u64>)];
-
-/// An array of these bytes.
-fn array_of(alloc: Global, rows: Listed) -> Result<ListedArray, AllocError> {
+/// An array of what is listed of a variable: rows with a comma between two. A row has bytes, and after `+` how many of them it lacks, if it
+/// ends there. These are filled up with dots.
+fn array_of(alloc: Global, rows: &str) -> Result<ListedArray, AllocError> {
     let mut array = ListedArray::new(alloc);
-    for (listed, lacking) in rows {
-        array.add(*listed)?;
-        if let Some(lacking) = *lacking {
+    for row in rows.split(',') {
+        let (digits, lacking) = row.split_once('+').unwrap_or((row, ""));
+        let listed = hex_bytes(alloc, digits)?;
+        array.add(listed.as_slice())?;
+        if let Ok(lacking) = lacking.parse() {
             array.end_row(lacking, b'.')?;
         }
     }
     Ok(array)
 }
 
-/// The arrays of some variables.
-fn arrays_of(alloc: Global, listed: &[Listed]) -> Result<Vec<ListedArray>, AllocError> {
+/// The arrays of some variables, with a semicolon between two.
+fn arrays_of(alloc: Global, listed: &str) -> Result<Vec<ListedArray>, AllocError> {
     let mut arrays = Vec::new(alloc);
-    for rows in listed {
-        arrays.push(array_of(alloc, *rows)?)?;
+    for rows in listed.split(';') {
+        arrays.push(array_of(alloc, rows)?)?;
     }
     Ok(arrays)
 }
@@ -107,80 +104,47 @@ fn expect_part(
     Ok(())
 }
 
-/// A file with the header of a data part, what is listed of each variable, and the bytes of the part.
-static PARTS: &[(&[u8], &[Listed], &[u8])] = &[
-    // values that are all listed
-    (
-        ONE_VARIABLE,
-        &[&[(b"\0\x01\x80\x01\0\x03", None)]],
-        b"\0\x01\x80\x01\0\x03\x80\x01",
-    ),
-    (RECORD_BYTES, &[&[(b"\x01\x02\x03", None)]], b"\x01\x02\x03"),
-    (NO_RECORDS, &[&[]], b""),
-    (
-        PADDED_RECORDS,
-        &[&[(b"\x01\x02\x03", None)], &[(b"\0\x04\0\x05\0\x06", None)]],
-        b"\x01\x81\x81\x81\0\x04\x80\x01\x02\x81\x81\x81\0\x05\x80\x01\x03\x81\x81\x81\0\x06\x80\x01",
-    ),
-    // blocks before records
-    (
-        THREE_VARIABLES,
-        &[
-            &[(b"\0\0\0\x0a\0\0\0\x14", None)],
-            &[(
-                b"\0\0\0\x01\0\0\0\x02\0\0\0\x03\0\0\0\x04\0\0\0\x05\0\0\0\x06\0\0\0\x07\0\0\0\x08",
-                None,
-            )],
-            &[(b"\0\0\0\x07", None)],
-        ],
-        b"\0\0\0\x07\0\0\0\x0a\0\0\0\x01\0\0\0\x02\0\0\0\x03\0\0\0\x04\0\0\0\x14\0\0\0\x05\0\0\0\x06\0\0\0\x07\0\0\0\x08",
-    ),
-    // values that lack at the end of a variable
-    (
-        ONE_VARIABLE,
-        &[&[(b"\0\x01", None)]],
-        b"\0\x01\x80\x01\x80\x01\x80\x01",
-    ),
-    (RECORD_BYTES, &[&[(b"\x01", None)]], b"\x01\x81\x81"),
-    (
-        PADDED_RECORDS,
-        &[&[(b"\x01", None)], &[(b"\0\x04\0\x05", None)]],
-        b"\x01\x81\x81\x81\0\x04\x80\x01\x81\x81\x81\x81\0\x05\x80\x01\x81\x81\x81\x81\x80\x01\x80\x01",
-    ),
-    (
-        RECORDS_OFF_BOUNDARY,
-        &[&[(b"\0\x01\0\x02\0\x03\0\x04", None)]],
-        b"\0\x01\0\x02\0\x03\0\x04\x80\x01\x80\x01\x80\x01\x80\x01\x80\x01",
-    ),
-    (
-        UNSIGNED_FILLS,
-        &[&[], &[]],
-        b"\xff\xff\xff\xff\xff\xff\xff\xff\xff\xff\xff\xfe",
-    ),
-    // rows that lack bytes
-    (
-        MANY_HELD_NULS,
-        &[&[(b"ab", Some(8)), (b"", Some(10))]],
-        b"ab..................",
-    ),
-    (
-        MANY_HELD_NULS,
-        &[&[(b"a", Some(4)), (b"bcdef", Some(0)), (b"g", Some(4))]],
-        b"a....bcdefg....\0\0\0\0\0",
-    ),
-    (
-        RECORD_BYTES,
-        &[&[(b"", Some(1)), (b"a", Some(0))]],
-        b".a\x81",
-    ),
-];
+/// Data parts. A row has the name of a file with the header of a part, what is listed of each variable, and the bytes of the part.
+const PARTS: &str = r"
+# values that are all listed
+ONE_VARIABLE|0001 8001 0003|0001 8001 0003 8001
+RECORD_BYTES|01 02 03|01 02 03
+NO_RECORDS||
+PADDED_RECORDS|01 02 03;0004 0005 0006|01 818181 0004 8001 02 818181 0005 8001 03 818181 0006 8001
+# blocks before records
+THREE_VARIABLES|0000000a 00000014;00000001 00000002 00000003 00000004 00000005 00000006 00000007 00000008;00000007|00000007 0000000a 00000001 00000002 00000003 00000004 00000014 00000005 00000006 00000007 00000008
+# values that lack at the end of a variable
+ONE_VARIABLE|0001|0001 8001 8001 8001
+RECORD_BYTES|01|01 81 81
+PADDED_RECORDS|01;0004 0005|01 818181 0004 8001 81 818181 0005 8001 81 818181 8001 8001
+RECORDS_OFF_BOUNDARY|0001 0002 0003 0004|0001 0002 0003 0004 8001 8001 8001 8001 8001
+UNSIGNED_FILLS|;|ffffffff fffffffffffffffe
+# rows that lack bytes
+MANY_HELD_NULS|6162+8,+10|6162 2e2e2e2e2e2e2e2e 2e2e2e2e2e2e2e2e2e2e
+MANY_HELD_NULS|61+4,6263646566+0,67+4|61 2e2e2e2e 6263646566 67 2e2e2e2e 0000000000
+RECORD_BYTES|+1,61+0|2e 61 81
+";
+
+/// Fails unless the data part of a row is so, as far as a sink of each length takes it.
+fn expect_row(rt: &impl Abort, alloc: Global, row: &str) -> Result<(), Fail> {
+    let cells = parts_of(alloc, row, '|')?;
+    let [name, listed, data] = cells.as_slice() else {
+        panic!(rt; "{row}");
+    };
+    let (file, data) = (file_of(alloc, *name)?, hex_bytes(alloc, *data)?);
+    let arrays = arrays_of(alloc, *listed)?;
+    for room in 0..=data.len() {
+        let part = (data.as_slice(), room);
+        expect_part(rt, alloc, file.as_slice(), arrays.as_slice(), part)?;
+    }
+    Ok(())
+}
 
 #[test]
 fn lacking_values_are_filled(rt: HostRuntime) -> Result<(), Fail> {
-    for (file, listed, data) in PARTS {
-        let arrays = arrays_of(rt.alloc(), *listed)?;
-        for room in 0..=data.len() {
-            expect_part(&rt, rt.alloc(), *file, arrays.as_slice(), (*data, room))?;
+    for row in PARTS.split('\n') {
+        if !row.is_empty() && !row.starts_with('#') {
+            expect_row(&rt, rt.alloc(), row)?;
         }
     }
     Ok(())
@@ -194,7 +158,7 @@ fn many_lacking_values_are_filled(rt: HostRuntime) -> Result<(), Fail> {
     for _ in 1..4100 {
         data.extend_from_slice(b"\x80\x01")?;
     }
-    let arrays = arrays_of(rt.alloc(), &[&[(b"\0\x01", None)]])?;
+    let arrays = arrays_of(rt.alloc(), "0001")?;
     let whole = (data.as_slice(), data.len());
     expect_part(&rt, rt.alloc(), file.as_slice(), arrays.as_slice(), whole)
 }

@@ -2,6 +2,7 @@
 
 use nc_base::{Att, Dim, Header, NcType, NumRecs, Sequence, Var, Version};
 use std::alloc::{AllocError, Global};
+use test_files::char_bytes;
 
 /// The name and the length of a dimension.
 pub type NamedLength<'a> = (&'a str, u64);
@@ -31,18 +32,9 @@ pub const EMPTY: HeaderRow<'static> = HeaderRow {
     vars: &[],
 };
 
-/// The bytes that the characters stand for.
-pub fn bytes_of(alloc: Global, chars: &str) -> Result<Vec<u8>, AllocError> {
-    let mut bytes = Vec::new(alloc);
-    for char in chars.chars() {
-        bytes.push((char as u32 % 256) as u8)?;
-    }
-    Ok(bytes)
-}
-
 /// The bytes that the characters stand for, as a sequence.
 pub fn sequence(alloc: Global, chars: &str) -> Result<Sequence<u8>, AllocError> {
-    Ok(Sequence::from_vec(bytes_of(alloc, chars)?))
+    Ok(Sequence::from_vec(char_bytes(alloc, chars)?))
 }
 
 /// Dimensions of these names and lengths.

@@ -1,12 +1,14 @@
 //! Names, and the heads of dumps.
 
-use crate::header_rows::{EMPTY, HeaderRow, NamedValues, att_of, bytes_of, header_of, var_of};
+use crate::header_rows::{EMPTY, HeaderRow, NamedValues, att_of, header_of, var_of};
 use cdl_print::{put_head, put_name};
 use devices::MemSink;
-use nc_base::{Header, NcType};
+use nc_base::Header;
+use nc_base::NcType::{self, Byte, Char, Int, Int64, Short, Ubyte, Uint, Uint64, Ushort};
 use std::alloc::{AllocError, Global};
 use std::process::Abort;
 use std::test::Fail;
+use test_files::char_bytes;
 
 #[test]
 fn names_are_escaped(rt: HostRuntime) {
@@ -61,44 +63,40 @@ fn dimensions_and_variables_are_declared(rt: HostRuntime) -> Result<(), Fail> {
 fn note_text(alloc: Global, want: &str) -> Result<Vec<u8>, AllocError> {
     let before = "netcdf t {\n\n// global attributes:\n\t\t:note = ";
     let text = format!(in alloc; "{before}{want} ;\n")?;
-    bytes_of(alloc, text.as_str())
+    char_bytes(alloc, text.as_str())
 }
 
 #[test]
 fn values_of_attributes_are_listed(rt: HostRuntime) -> Result<(), Fail> {
     static ROWS: &[(NcType, &str, &str)] = &[
-        (NcType::Char, "a\nb\n", "\"a\\n\",\n\t\t\t\"b\\n\""),
+        (Char, "a\nb\n", "\"a\\n\",\n\t\t\t\"b\\n\""),
         (
-            NcType::Char,
+            Char,
             "\t\"\\\x7f\u{c3}\u{a9}\0\0",
             "\"\\t\\\"\\\\\\177\u{c3}\u{a9}\"",
         ),
         (
-            NcType::Char,
+            Char,
             "\x08\x0c\r\t\x0b\\'\"\x01\x1f\x7f",
             "\"\\b\\f\\r\\t\\v\\\\\\'\\\"\\001\\037\\177\"",
         ),
         // more plain characters than are written at once, and one that is escaped
         (
-            NcType::Char,
+            Char,
             "aaaaaaaaaaaaaaaaaaaaaaaaaaaaaaaaaaaaaaaaaaaaaaaaaaaaaaaaaaaaaaaaaaaaaaaaaaaaaaaaaaaaaaaaaaaaaaaaaaaaaaaaaaaaaaaaaaaaaaaaaaaaaaaaaa\tb",
             "\"aaaaaaaaaaaaaaaaaaaaaaaaaaaaaaaaaaaaaaaaaaaaaaaaaaaaaaaaaaaaaaaaaaaaaaaaaaaaaaaaaaaaaaaaaaaaaaaaaaaaaaaaaaaaaaaaaaaaaaaaaaaaaaaaaa\\tb\"",
         ),
-        (NcType::Char, "", "\"\""),
-        (NcType::Byte, "\u{ff}\x01", "-1b, 1b"),
-        (NcType::Short, "\u{80}\0", "-32768s"),
-        (NcType::Int, "\0\0\x01\0\u{ff}\u{ff}\u{ff}\u{ff}", "256, -1"),
-        (NcType::Int, "", ""),
-        (NcType::Ubyte, "\u{ff}", "255UB"),
-        (NcType::Ushort, "\u{ff}\u{ff}", "65535US"),
-        (NcType::Uint, "\u{ff}\u{ff}\u{ff}\u{ff}", "4294967295U"),
+        (Char, "", "\"\""),
+        (Byte, "\u{ff}\x01", "-1b, 1b"),
+        (Short, "\u{80}\0", "-32768s"),
+        (Int, "\0\0\x01\0\u{ff}\u{ff}\u{ff}\u{ff}", "256, -1"),
+        (Int, "", ""),
+        (Ubyte, "\u{ff}", "255UB"),
+        (Ushort, "\u{ff}\u{ff}", "65535US"),
+        (Uint, "\u{ff}\u{ff}\u{ff}\u{ff}", "4294967295U"),
+        (Int64, "\u{80}\0\0\0\0\0\0\0", "-9223372036854775808LL"),
         (
-            NcType::Int64,
-            "\u{80}\0\0\0\0\0\0\0",
-            "-9223372036854775808LL",
-        ),
-        (
-            NcType::Uint64,
+            Uint64,
             "\u{ff}\u{ff}\u{ff}\u{ff}\u{ff}\u{ff}\u{ff}\u{ff}",
             "18446744073709551615ULL",
         ),

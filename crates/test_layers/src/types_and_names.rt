@@ -1,7 +1,8 @@
 //! What the clauses don't say: that the definitions they cite are those of the format.
 
 use crate::header_rows::{NamedValues, var_of};
-use nc_base::{NcType, Sequence, Version, check_name, fill_of, stem};
+use nc_base::NcType::{self, Byte, Int, Short, Uint64};
+use nc_base::{Sequence, Version, check_name, fill_of, stem};
 use std::test::Fail;
 
 /// The types in the order of `NcType::ALL`, each with the size, the code and the default fill value that `netcdf.h` gives it.
@@ -98,47 +99,32 @@ fn names_and_stems_keep_their_rules(rt: HostRuntime) {
 
 const FILL: &str = "_FillValue";
 
+/// Fill values of one short and of two, and of an int.
+const SEVEN: NamedValues<'static> = (FILL, Short, "\0\x07");
+
+const EIGHT: NamedValues<'static> = (FILL, Short, "\0\x08");
+
+const MINUS_TWO: NamedValues<'static> = (FILL, Short, "\u{ff}\u{fe}");
+
+const TWO_SEVENS: NamedValues<'static> = (FILL, Short, "\0\x07\0\x07");
+
+const INT: NamedValues<'static> = (FILL, Int, "\0\0\0\x07");
+
+/// A fill value of 64 bits.
+const LARGE: NamedValues<'static> = (FILL, Uint64, "\u{80}\0\0\0\0\0\0\x01");
+
 /// A type, attributes of a variable of the type, and the variable's fill value.
 static FILLS: &[(NcType, &[NamedValues<'static>], i128)] = &[
-    (NcType::Short, &[("units", NcType::Char, "K")], -32767),
-    (NcType::Byte, &[(FILL, NcType::Byte, "\u{81}")], -127),
-    (
-        NcType::Short,
-        &[
-            ("units", NcType::Short, "\0\x07"),
-            (FILL, NcType::Short, "\u{ff}\u{fe}"),
-        ],
-        -2,
-    ),
-    (
-        NcType::Uint64,
-        &[(FILL, NcType::Uint64, "\u{80}\0\0\0\0\0\0\x01")],
-        9223372036854775809,
-    ),
+    (Short, &[("units", NcType::Char, "K")], -32767),
+    (Byte, &[(FILL, Byte, "\u{81}")], -127),
+    (Short, &[("units", Short, "\0\x07"), MINUS_TWO], -2),
+    (Uint64, &[LARGE], 9223372036854775809),
     // of another type, and of two values
-    (NcType::Short, &[(FILL, NcType::Int, "\0\0\0\x07")], -32767),
-    (
-        NcType::Short,
-        &[(FILL, NcType::Short, "\0\x07\0\x07")],
-        -32767,
-    ),
+    (Short, &[INT], -32767),
+    (Short, &[TWO_SEVENS], -32767),
     // two of the name
-    (
-        NcType::Short,
-        &[
-            (FILL, NcType::Short, "\0\x07"),
-            (FILL, NcType::Short, "\0\x08"),
-        ],
-        7,
-    ),
-    (
-        NcType::Short,
-        &[
-            (FILL, NcType::Int, "\0\0\0\x07"),
-            (FILL, NcType::Short, "\0\x08"),
-        ],
-        -32767,
-    ),
+    (Short, &[SEVEN, EIGHT], 7),
+    (Short, &[INT, EIGHT], -32767),
 ];
 
 #[test]

@@ -1,247 +1,77 @@
 //! Texts of values: numbers and characters, fill values, and where lines are broken. Each is printed for several cuttings into calls, and
 //! into sinks that fail after each number of bytes.
 
-use crate::header_rows::{bytes_of, sequence, var_of};
+use crate::header_rows::{sequence, var_of};
 use cdl_print::ValuePrinter;
 use devices::{Sink, SliceSink, WriteFailed};
 use nc_base::{Att, Dim, Header, NcType, NumRecs, Sequence, Var, Version};
 use std::alloc::{AllocError, Global};
 use std::process::Abort;
 use std::test::Fail;
+use test_files::{char_bytes, parts_of};
 
 /// A variable over dimensions of these lengths (0 stands for the record dimension, which has two records), its fill value, if it has one
 /// of its own, the width of its lines, its values and the text that they are to have. Each character of the name and of the text stands for
-/// a byte.
+/// a byte, as `char_bytes` says.
 #[derive(Clone, Copy)]
 struct Row<'a> {
     name: &'a str,
     ty: NcType,
-    lens: &'a [u64],
+    lens: &'a str,
     fill: Option<i128>,
     width: usize,
     values: &'a [i128],
     text: &'a str,
 }
 
-/// The variable `v` of numbers in lines of 80 bytes: its type, its fill value, its values, and their text.
-type Numbers = (NcType, Option<i128>, &'static [i128], &'static str);
-
 /// Numbers of few digits and of many, the least and the greatest of each type, and fill values: that of the type, which counts in types of
-/// two bytes and more, or the variable's own one.
-static NUMBERS: &[Numbers] = &[
-    (
-        NcType::Byte,
-        None,
-        &[-128, -127, -100, -99, -10, -9, -1, 0, 9, 10, 99, 100, 127],
-        "\n v = -128, -127, -100, -99, -10, -9, -1, 0, 9, 10, 99, 100, 127 ;\n",
-    ),
-    (
-        NcType::Byte,
-        Some(-127),
-        &[1, -127, -128, 9],
-        "\n v = 1, _, -128, 9 ;\n",
-    ),
-    (
-        NcType::Short,
-        None,
-        &[-32768, -32767, -100, -99, -10, -9, -1, 0, 9, 10, 99, 100],
-        "\n v = -32768, _, -100, -99, -10, -9, -1, 0, 9, 10, 99, 100 ;\n",
-    ),
-    (
-        NcType::Int,
-        None,
-        &[-2147483648, -2147483647, -10, -1, 0, 9, 10, 99, 100],
-        "\n v = -2147483648, _, -10, -1, 0, 9, 10, 99, 100 ;\n",
-    ),
-    (
-        NcType::Int64,
-        None,
-        &[-9223372036854775808, -9223372036854775806, -1, 10, 100],
-        "\n v = -9223372036854775808, _, -1, 10, 100 ;\n",
-    ),
-    (
-        NcType::Int64,
-        Some(-1),
-        &[1, -1, 99, 100, 9223372036854775807],
-        "\n v = 1, _, 99, 100, 9223372036854775807 ;\n",
-    ),
-    (
-        NcType::Ubyte,
-        None,
-        &[0, 9, 10, 99, 100, 254, 255],
-        "\n v = 0, 9, 10, 99, 100, 254, 255 ;\n",
-    ),
-    (
-        NcType::Ubyte,
-        Some(99),
-        &[0, 9, 10, 99, 100, 200],
-        "\n v = 0, 9, 10, _, 100, 200 ;\n",
-    ),
-    (
-        NcType::Ushort,
-        None,
-        &[0, 9, 10, 99, 100, 65534, 65535],
-        "\n v = 0, 9, 10, 99, 100, 65534, _ ;\n",
-    ),
-    (
-        NcType::Ushort,
-        Some(1),
-        &[0, 1, 65535],
-        "\n v = 0, _, 65535 ;\n",
-    ),
-    (
-        NcType::Uint,
-        None,
-        &[9, 10, 100, 9999, 10000, 99999999, 100000000, 4294967295],
-        "\n v = 9, 10, 100, 9999, 10000, 99999999, 100000000, _ ;\n",
-    ),
-    (
-        NcType::Uint,
-        Some(10),
-        &[9, 10, 11, 4294967295],
-        "\n v = 9, _, 11, 4294967295 ;\n",
-    ),
-    (
-        NcType::Uint64,
-        None,
-        &[10, 18446744073709551614, 18446744073709551615],
-        "\n v = 10, _, 18446744073709551615 ;\n",
-    ),
-    (
-        NcType::Uint64,
-        Some(9223372036854775808),
-        &[1, 9223372036854775807, 9223372036854775808],
-        "\n v = 1, 9223372036854775807, _ ;\n",
-    ),
-];
+/// two bytes and more, or the variable's own one. A row of this text and of those below has the name of a variable, its type, the lengths
+/// of its dimensions, its fill value, its values, and their text.
+const NUMBERS: &str = r"
+v|byte|13||-128 -127 -100 -99 -10 -9 -1 0 9 10 99 100 127|^ v = -128, -127, -100, -99, -10, -9, -1, 0, 9, 10, 99, 100, 127 ;^
+v|byte|4|-127|1 -127 -128 9|^ v = 1, _, -128, 9 ;^
+v|short|12||-32768 -32767 -100 -99 -10 -9 -1 0 9 10 99 100|^ v = -32768, _, -100, -99, -10, -9, -1, 0, 9, 10, 99, 100 ;^
+v|int|9||-2147483648 -2147483647 -10 -1 0 9 10 99 100|^ v = -2147483648, _, -10, -1, 0, 9, 10, 99, 100 ;^
+v|int64|5||-9223372036854775808 -9223372036854775806 -1 10 100|^ v = -9223372036854775808, _, -1, 10, 100 ;^
+v|int64|5|-1|1 -1 99 100 9223372036854775807|^ v = 1, _, 99, 100, 9223372036854775807 ;^
+v|ubyte|7||0 9 10 99 100 254 255|^ v = 0, 9, 10, 99, 100, 254, 255 ;^
+v|ubyte|6|99|0 9 10 99 100 200|^ v = 0, 9, 10, _, 100, 200 ;^
+v|ushort|7||0 9 10 99 100 65534 65535|^ v = 0, 9, 10, 99, 100, 65534, _ ;^
+v|ushort|3|1|0 1 65535|^ v = 0, _, 65535 ;^
+v|uint|8||9 10 100 9999 10000 99999999 100000000 4294967295|^ v = 9, 10, 100, 9999, 10000, 99999999, 100000000, _ ;^
+v|uint|4|10|9 10 11 4294967295|^ v = 9, _, 11, 4294967295 ;^
+v|uint64|3||10 18446744073709551614 18446744073709551615|^ v = 10, _, 18446744073709551615 ;^
+v|uint64|3|9223372036854775808|1 9223372036854775807 9223372036854775808|^ v = 1, 9223372036854775807, _ ;^
+";
 
-/// A variable of numbers in lines of 20 bytes: its name, its type, its values, and their text.
-type Narrow = (&'static str, NcType, &'static [i128], &'static str);
-
-const LONG_NAME: &str = "abcdefghijklmnopqrstuvwxy";
-
-/// Lines that are full, and numbers that begin the next line.
-static LINES: &[Narrow] = &[
-    (
-        "v",
-        NcType::Byte,
-        &[1, 2, 3, 4, 5, 6, 7, 8, 9, 10, 11],
-        "\n v = 1, 2, 3, 4, 5, \n    6, 7, 8, 9, 10, \n    11 ;\n",
-    ),
-    (
-        "v",
-        NcType::Byte,
-        &[1, 2, 3, 4, 50, 60, 70, 80, 9],
-        "\n v = 1, 2, 3, 4, \n    50, 60, 70, 80, \n    9 ;\n",
-    ),
-    (
-        "v",
-        NcType::Int,
-        &[1, 2, 3, 4, -2147483647, -2147483647, 10, -2147483647],
-        "\n v = 1, 2, 3, 4, _, \n    _, 10, _ ;\n",
-    ),
-    (
-        "v",
-        NcType::Short,
-        &[10, 20, 30, 40, 5, 100, -1, -10],
-        "\n v = 10, 20, 30, \n    40, 5, 100, -1, \n    -10 ;\n",
-    ),
-    // a short last number
-    (
-        "v",
-        NcType::Int,
-        &[1000, 20000, 66],
-        "\n v = 1000, 20000, \n    66 ;\n",
-    ),
-    // the first number stays on the line of the name, which counts with its escapes
-    (
-        LONG_NAME,
-        NcType::Byte,
-        &[1, 2, 3],
-        "\n abcdefghijklmnopqrstuvwxy = 1, \n    2, 3 ;\n",
-    ),
-    (
-        "a:b:c",
-        NcType::Byte,
-        &[10, 2, 3],
-        "\n a\\:b\\:c = 10, 2, \n    3 ;\n",
-    ),
-    // a line feed in a name begins a line
-    (
-        "a\nb",
-        NcType::Int,
-        &[1000, 20000, 66],
-        "\n a\\\nb = 1000, 20000, \n    66 ;\n",
-    ),
-];
-
-/// The variable `v` in lines of 20 bytes.
-const V: Row<'static> = Row {
-    name: "v",
-    ty: NcType::Char,
-    lens: &[],
-    fill: None,
-    width: 20,
-    values: &[],
-    text: "",
-};
+/// Lines of 20 bytes that are full, and numbers that begin the next line.
+const LINES: &str = r"
+v|byte|11||1 2 3 4 5 6 7 8 9 10 11|^ v = 1, 2, 3, 4, 5, ^    6, 7, 8, 9, 10, ^    11 ;^
+v|byte|9||1 2 3 4 50 60 70 80 9|^ v = 1, 2, 3, 4, ^    50, 60, 70, 80, ^    9 ;^
+v|int|8||1 2 3 4 -2147483647 -2147483647 10 -2147483647|^ v = 1, 2, 3, 4, _, ^    _, 10, _ ;^
+v|short|8||10 20 30 40 5 100 -1 -10|^ v = 10, 20, 30, ^    40, 5, 100, -1, ^    -10 ;^
+# a short last number
+v|int|3||1000 20000 66|^ v = 1000, 20000, ^    66 ;^
+# the first number stays on the line of the name, which counts with its escapes
+abcdefghijklmnopqrstuvwxy|byte|3||1 2 3|^ abcdefghijklmnopqrstuvwxy = 1, ^    2, 3 ;^
+a:b:c|byte|3||10 2 3|^ a\:b\:c = 10, 2, ^    3 ;^
+# a line feed in a name begins a line
+a^b|int|3||1000 20000 66|^ a\^b = 1000, 20000, ^    66 ;^
+";
 
 /// Rows are those of the last dimension. NULs wait for the character after them in their row; those at its end are left out, unless the
 /// variable has a fill value of its own or no other dimension than that of records.
-static ROWS: &[Row<'static>] = &[
-    Row {
-        ty: NcType::Uint64,
-        lens: &[0, 1, 2],
-        values: &[18446744073709551613, 1, 3, 18446744073709551613],
-        text: "\n v =\n  18446744073709551613, \n    1,\n  3, \n    18446744073709551613 ;\n",
-        ..V
-    },
-    Row {
-        ty: NcType::Byte,
-        lens: &[3, 1],
-        values: &[1, -2, 3],
-        text: "\n v =\n  1,\n  -2,\n  3 ;\n",
-        ..V
-    },
-    Row {
-        ty: NcType::Short,
-        values: &[172],
-        text: "\n v = 172 ;\n",
-        ..V
-    },
-    Row {
-        lens: &[6],
-        values: &[97, 0, 0, 98, 0, 0],
-        text: "\n v = \"a\\000\\000b\" ;\n",
-        ..V
-    },
-    Row {
-        lens: &[3, 2],
-        values: &[0, 97, 0, 0, 98, 0],
-        text: "\n v =\n  \"\\000a\",\n  \"\",\n  \"b\" ;\n",
-        ..V
-    },
-    Row {
-        lens: &[0, 2],
-        fill: Some(120),
-        values: &[97, 0, 0, 0],
-        text: "\n v =\n  \"a\\000\",\n  \"\\000\\000\" ;\n",
-        ..V
-    },
-    Row {
-        lens: &[0],
-        values: &[0, 0],
-        text: "\n v = \"\\000\\000\" ;\n",
-        ..V
-    },
-    // a tab, a quote, a backslash, 0x7f, a letter of two bytes, and 0xff
-    Row {
-        lens: &[7],
-        values: &[0x09, 0x22, 0x5c, 0x7f, 0xc3, 0xa9, 0xff],
-        text: "\n v = \"\\t\\\"\\\\\\177\u{c3}\u{a9}\u{ff}\" ;\n",
-        ..V
-    },
-];
+const ROWS: &str = r#"
+v|uint64|0 1 2||18446744073709551613 1 3 18446744073709551613|^ v =^  18446744073709551613, ^    1,^  3, ^    18446744073709551613 ;^
+v|byte|3 1||1 -2 3|^ v =^  1,^  -2,^  3 ;^
+v|short|||172|^ v = 172 ;^
+v|char|6||97 0 0 98 0 0|^ v = "a\000\000b" ;^
+v|char|3 2||0 97 0 0 98 0|^ v =^  "\000a",^  "",^  "b" ;^
+v|char|0 2|120|97 0 0 0|^ v =^  "a\000",^  "\000\000" ;^
+v|char|0||0 0|^ v = "\000\000" ;^
+# a tab, a quote, a backslash, 0x7f, a letter of two bytes, and 0xff
+v|char|7||9 34 92 127 195 169 255|^ v = "\t\"\\\177Ã©ÿ" ;^
+"#;
 
 /// The last bytes of these numbers, big-endian, as many as a value of the type has.
 fn packed(alloc: Global, ty: NcType, values: &[i128]) -> Result<Vec<u8>, AllocError> {
@@ -256,7 +86,7 @@ fn packed(alloc: Global, ty: NcType, values: &[i128]) -> Result<Vec<u8>, AllocEr
 /// The variable of a row, over as many dimensions as there are lengths.
 fn var_of_row(alloc: Global, row: &Row<'_>) -> Result<Var, AllocError> {
     let mut var = var_of(alloc, (row.name, &[], row.ty, 0), &[])?;
-    for id in 0..row.lens.len() {
+    for (id, _) in row.lens.split_whitespace().enumerate() {
         var.dimids.push(id as u64)?;
     }
     if let Some(fill) = row.fill {
@@ -272,9 +102,9 @@ fn var_of_row(alloc: Global, row: &Row<'_>) -> Result<Var, AllocError> {
 /// A header with the variable of a row alone.
 fn header_of_row(alloc: Global, row: &Row<'_>) -> Result<Header, AllocError> {
     let mut dims = Sequence::new(alloc);
-    for len in row.lens {
-        let name = sequence(alloc, "d")?;
-        dims.push(Dim { name, len: *len })?;
+    for len in row.lens.split_whitespace() {
+        let (name, len) = (sequence(alloc, "d")?, len.parse().unwrap_or(0));
+        dims.push(Dim { name, len })?;
     }
     let mut vars = Sequence::new(alloc);
     vars.push(var_of_row(alloc, row)?)?;
@@ -331,7 +161,7 @@ fn is_shown(
 fn expect_pieces(rt: &impl Abort, alloc: Global, row: &Row<'_>, count: usize) -> Result<(), Fail> {
     let header = header_of_row(alloc, row)?;
     let bytes = packed(alloc, row.ty, row.values)?;
-    let text = bytes_of(alloc, row.text)?;
+    let text = char_bytes(alloc, row.text)?;
     let texts = (bytes.as_slice(), text.as_slice());
     let piece_len = (row.ty.size() as usize).saturating_mul(count);
     for room in 0..=text.len() {
@@ -341,46 +171,56 @@ fn expect_pieces(rt: &impl Abort, alloc: Global, row: &Row<'_>, count: usize) ->
     Ok(())
 }
 
-/// The same in pieces of one, two and three values, and of all.
-fn expect_text(rt: &impl Abort, alloc: Global, row: Row<'_>) -> Result<(), Fail> {
+/// The numbers of a text, which has a space between two.
+fn numbers_of(alloc: Global, text: &str) -> Result<Vec<i128>, AllocError> {
+    let mut numbers = Vec::new(alloc);
+    for word in text.split(' ') {
+        numbers.push(word.parse().unwrap_or(0))?;
+    }
+    Ok(numbers)
+}
+
+/// Fails unless the values of a row of a text have its text in lines of `width` bytes, in pieces of one, two and three values, and of all.
+fn expect_text(rt: &impl Abort, alloc: Global, line: &str, width: usize) -> Result<(), Fail> {
+    let cells = parts_of(alloc, line, '|')?;
+    let [name, word, lens, fill, values, text] = cells.as_slice() else {
+        panic!(rt; "{line}");
+    };
+    let mut types = NcType::ALL.iter().copied();
+    let ty = types.find(|ty| ty.word() == word.as_bytes());
+    let values = numbers_of(alloc, *values)?;
+    let row = Row {
+        name: *name,
+        ty: ty.ok_or("no such type")?,
+        lens: *lens,
+        fill: fill.parse().ok(),
+        width,
+        values: values.as_slice(),
+        text: *text,
+    };
     for count in [1, 2, 3, 64] {
         expect_pieces(rt, alloc, &row, count)?;
     }
     Ok(())
 }
 
-#[test]
-fn values_have_their_text(rt: HostRuntime) -> Result<(), Fail> {
-    for (ty, fill, values, text) in NUMBERS {
-        let row = Row {
-            ty: *ty,
-            lens: &[values.len() as u64],
-            fill: *fill,
-            width: 80,
-            values: *values,
-            text: *text,
-            ..V
-        };
-        expect_text(&rt, rt.alloc(), row)?;
-    }
-    for row in ROWS {
-        expect_text(&rt, rt.alloc(), *row)?;
+/// Fails unless each row of a text is so.
+fn expect_table(rt: &impl Abort, alloc: Global, table: &str, width: usize) -> Result<(), Fail> {
+    for line in table.split('\n') {
+        if !line.is_empty() && !line.starts_with('#') {
+            expect_text(rt, alloc, line, width)?;
+        }
     }
     Ok(())
 }
 
 #[test]
+fn values_have_their_text(rt: HostRuntime) -> Result<(), Fail> {
+    expect_table(&rt, rt.alloc(), NUMBERS, 80)?;
+    expect_table(&rt, rt.alloc(), ROWS, 20)
+}
+
+#[test]
 fn lines_are_broken(rt: HostRuntime) -> Result<(), Fail> {
-    for (name, ty, values, text) in LINES {
-        let row = Row {
-            name: *name,
-            ty: *ty,
-            lens: &[values.len() as u64],
-            values: *values,
-            text: *text,
-            ..V
-        };
-        expect_text(&rt, rt.alloc(), row)?;
-    }
-    Ok(())
+    expect_table(&rt, rt.alloc(), LINES, 20)
 }

@@ -8,8 +8,8 @@ use std::alloc::Global;
 use std::process::Abort;
 use std::test::Fail;
 use test_files::{
-    FORTY_SHORTS, ONE_VARIABLE, ONE_VARIABLE_CDF2, ONE_VARIABLE_CDF5, PADDED_RECORDS, RECORD_BYTES,
-    RECORDS_OFF_BOUNDARY, THREE_VARIABLES, cut, patched,
+    FORTY_SHORTS, ONE_VARIABLE, PADDED_RECORDS, RECORD_BYTES, RECORDS_OFF_BOUNDARY,
+    THREE_VARIABLES, cut, file_of, hex_bytes, parts_of,
 };
 
 /// What a walk over a variable, at index `v`, is to give: these values, in chunks that fill the buffer as far as there are values, and then
@@ -82,139 +82,79 @@ fn expect_walks(
     Ok(())
 }
 
-/// A file, other bytes for it from an offset on, how many of its bytes there are, the index of the variable that is walked over, the bytes
-/// of its values, and how the walk ends.
-type Walked = (
-    &'static [u8],
-    (usize, &'static [u8]),
-    usize,
-    usize,
-    &'static [u8],
-    Result<(), WalkFault>,
-);
+/// Files of other versions, slabs beside others, and files that are changed. A row has the words of a file, how many of its bytes there
+/// are, the index of the variable that is walked over, the bytes of its values, and the number of the first one that is missing, if one is.
+const WALKED: &str = r"
+ONE_VARIABLE_CDF2|92|0|0001 8001 0003|
+ONE_VARIABLE_CDF5|136|0|0001 8001 0003|
+THREE_VARIABLES|224|0|0000000a 00000014|
+THREE_VARIABLES|224|1|00000001 00000002 00000003 00000004 00000005 00000006 00000007 00000008|
+THREE_VARIABLES|224|2|00000007|
+# streaming records
+PADDED_RECORDS 4=ffffffff|139|1|0004 0005|
+# more records than the file has
+RECORD_BYTES 4=7fffffff|83|0|01 02 03|3
+# values in the header
+ONE_VARIABLE 76=00000000|88|0|4344 4601 0000|
+# the greatest offset
+ONE_VARIABLE_CDF2 76=7fffffffffffffff|92|0||0
+";
 
-/// No bytes are changed.
-const UNCHANGED: (usize, &[u8]) = (0, b"");
-
-/// The values of three shorts.
-const SHORTS: &[u8] = b"\0\x01\x80\x01\0\x03";
-
-/// Files of other versions, slabs beside others, and files that are changed.
-static WALKED: &[Walked] = &[
-    (ONE_VARIABLE_CDF2, UNCHANGED, 92, 0, SHORTS, Ok(())),
-    (ONE_VARIABLE_CDF5, UNCHANGED, 136, 0, SHORTS, Ok(())),
-    (
-        THREE_VARIABLES,
-        UNCHANGED,
-        224,
-        0,
-        b"\0\0\0\x0a\0\0\0\x14",
-        Ok(()),
-    ),
-    (
-        THREE_VARIABLES,
-        UNCHANGED,
-        224,
-        1,
-        b"\0\0\0\x01\0\0\0\x02\0\0\0\x03\0\0\0\x04\0\0\0\x05\0\0\0\x06\0\0\0\x07\0\0\0\x08",
-        Ok(()),
-    ),
-    (THREE_VARIABLES, UNCHANGED, 224, 2, b"\0\0\0\x07", Ok(())),
-    // streaming records
-    (
-        PADDED_RECORDS,
-        (4, b"\xff\xff\xff\xff"),
-        139,
-        1,
-        b"\0\x04\0\x05",
-        Ok(()),
-    ),
-    // more records than the file has
-    (
-        RECORD_BYTES,
-        (4, b"\x7f\xff\xff\xff"),
-        83,
-        0,
-        b"\x01\x02\x03",
-        Err(WalkFault::DataTruncated(3)),
-    ),
-    // values in the header
-    (
-        ONE_VARIABLE,
-        (76, b"\0\0\0\0"),
-        88,
-        0,
-        b"CDF\x01\0\0",
-        Ok(()),
-    ),
-    // the greatest offset
-    (
-        ONE_VARIABLE_CDF2,
-        (76, b"\x7f\xff\xff\xff\xff\xff\xff\xff"),
-        92,
-        0,
-        b"",
-        Err(WalkFault::DataTruncated(0)),
-    ),
-];
+/// Fails unless the walk of a row is so.
+fn expect_row(rt: &impl Abort, alloc: Global, row: &str) -> Result<(), Fail> {
+    let cells = parts_of(alloc, row, '|')?;
+    let [words, len, v, values, missing] = cells.as_slice() else {
+        panic!(rt; "{row}");
+    };
+    let (file, values) = (file_of(alloc, *words)?, hex_bytes(alloc, *values)?);
+    let want = Want {
+        v: v.parse()?,
+        values: values.as_slice(),
+        end: match missing.parse() {
+            Ok(value) => Err(WalkFault::DataTruncated(value)),
+            Err(_) => Ok(()),
+        },
+    };
+    expect_walks(rt, alloc, (file.as_slice(), len.parse()?), &want)
+}
 
 #[test]
 fn values_of_whole_files(rt: HostRuntime) -> Result<(), Fail> {
     // the law on the bytes of values is called for its contract alone
     laws::values_are_read();
-    for (file, (at, bytes), len, v, values, end) in WALKED {
-        let file = patched(rt.alloc(), *file, *at, *bytes)?;
-        let want = Want {
-            v: *v,
-            values: *values,
-            end: *end,
-        };
-        expect_walks(&rt, rt.alloc(), (file.as_slice(), *len), &want)?;
+    for row in WALKED.split('\n') {
+        if !row.is_empty() && !row.starts_with('#') {
+            expect_row(&rt, rt.alloc(), row)?;
+        }
     }
     Ok(())
 }
 
-/// A file, the length of its header, the index of a variable, the offset of its first value, the bytes of a value, the bytes from one value
-/// to the next, and all of its values.
-type Strided = (
-    &'static [u8],
-    usize,
-    usize,
-    usize,
-    usize,
-    usize,
-    &'static [u8],
-);
+/// A file; the length of its header, the index of a variable, the offset of its first value, the bytes of a value, and the bytes from one
+/// value to the next; and all of its values.
+type Strided = (&'static [u8], [usize; 5], &'static [u8]);
 
 static STRIDED: &[Strided] = &[
-    (ONE_VARIABLE, 80, 0, 80, 2, 2, SHORTS),
-    (RECORD_BYTES, 80, 0, 80, 1, 1, b"\x01\x02\x03"),
-    (PADDED_RECORDS, 116, 0, 116, 1, 8, b"\x01\x02\x03"),
-    (PADDED_RECORDS, 116, 1, 120, 2, 8, b"\0\x04\0\x05\0\x06"),
+    (ONE_VARIABLE, [80, 0, 80, 2, 2], b"\0\x01\x80\x01\0\x03"),
+    (RECORD_BYTES, [80, 0, 80, 1, 1], b"\x01\x02\x03"),
+    (PADDED_RECORDS, [116, 0, 116, 1, 8], b"\x01\x02\x03"),
+    (PADDED_RECORDS, [116, 1, 120, 2, 8], b"\0\x04\0\x05\0\x06"),
     (
         RECORDS_OFF_BOUNDARY,
-        96,
-        0,
-        96,
-        2,
-        2,
+        [96, 0, 96, 2, 2],
         b"\0\x01\0\x02\0\x03\0\x04\0\x05\0\x06\0\x07\0\x08\0\x09",
     ),
     // a slab of more bytes than the buffers have
     (
         FORTY_SHORTS,
-        80,
-        0,
-        80,
-        2,
-        2,
+        [80, 0, 80, 2, 2],
         b"\0\x01\0\x02\0\x03\0\x04\0\x05\0\x06\0\x07\0\x08\0\x09\0\x0a\0\x0b\0\x0c\0\x0d\0\x0e\0\x0f\0\x10\0\x11\0\x12\0\x13\0\x14\0\x15\0\x16\0\x17\0\x18\0\x19\0\x1a\0\x1b\0\x1c\0\x1d\0\x1e\0\x1f\0\x20\0\x21\0\x22\0\x23\0\x24\0\x25\0\x26\0\x27\0\x28",
     ),
 ];
 
 /// What a walk over the first `len` bytes of the file is to give: the values that are whole there, and the number of the first other one.
 fn wanted_of(row: &Strided, len: usize) -> Want<'static> {
-    let (_, _, v, first, size, stride, all) = *row;
+    let (_, [_, v, first, size, stride], all) = *row;
     let (mut whole, mut count) = (0usize, 0u128);
     let mut past = first.saturating_add(size);
     for value in all.chunks(size.max(1)) {
@@ -238,64 +178,44 @@ fn wanted_of(row: &Strided, len: usize) -> Want<'static> {
 #[test]
 fn values_cut_at_each_byte(rt: HostRuntime) -> Result<(), Fail> {
     for row in STRIDED {
-        for len in row.1..=row.0.len() {
+        let (file, [header_len, ..], _) = *row;
+        for len in header_len..=file.len() {
             let want = wanted_of(row, len);
-            expect_walks(&rt, rt.alloc(), (row.0, len), &want)?;
+            expect_walks(&rt, rt.alloc(), (file, len), &want)?;
         }
     }
     Ok(())
 }
 
-/// Walks from sources that fail, through a buffer of 16 bytes. What stands in the buffer is dropped then, and no read is tried again.
-static FAILING: &[(&[u8], FailWhen, Want<'static>)] = &[
-    (
-        ONE_VARIABLE,
-        FailWhen::From(80),
-        Want {
-            v: 0,
-            values: b"",
-            end: Err(WalkFault::ReadFailed),
-        },
-    ),
-    (
-        ONE_VARIABLE,
-        FailWhen::Read(0),
-        Want {
-            v: 0,
-            values: b"",
-            end: Err(WalkFault::ReadFailed),
-        },
-    ),
+/// Walks from sources that fail, through a buffer of 16 bytes: a file, when reads fail, the index of a variable, and its values before that.
+/// What stands in the buffer is dropped then, and no read is tried again.
+static FAILING: &[(&[u8], FailWhen, usize, &[u8])] = &[
+    (ONE_VARIABLE, FailWhen::From(80), 0, b""),
+    (ONE_VARIABLE, FailWhen::Read(0), 0, b""),
     // in the second record
-    (
-        PADDED_RECORDS,
-        FailWhen::From(128),
-        Want {
-            v: 1,
-            values: b"",
-            end: Err(WalkFault::ReadFailed),
-        },
-    ),
+    (PADDED_RECORDS, FailWhen::From(128), 1, b""),
     // after a chunk
     (
         THREE_VARIABLES,
         FailWhen::From(208),
-        Want {
-            v: 1,
-            values: b"\0\0\0\x01\0\0\0\x02\0\0\0\x03\0\0\0\x04",
-            end: Err(WalkFault::ReadFailed),
-        },
+        1,
+        b"\0\0\0\x01\0\0\0\x02\0\0\0\x03\0\0\0\x04",
     ),
 ];
 
 #[test]
 fn failing_sources(rt: HostRuntime) -> Result<(), Fail> {
-    for (file, fail, want) in FAILING {
+    for (file, fail, v, values) in FAILING {
+        let want = Want {
+            v: *v,
+            values: *values,
+            end: Err(WalkFault::ReadFailed),
+        };
         let header = read_header(rt.alloc(), &mut MemSource::new(*file), &mut [0; 16])?;
         let count = records_in(&rt, &header, file.len());
         for step in 1..=9 {
             let mut source = DripSource::new(*file, step, *fail);
-            expect_walk(&rt, &header, &mut source, (count, 16), want);
+            expect_walk(&rt, &header, &mut source, (count, 16), &want);
         }
     }
     Ok(())

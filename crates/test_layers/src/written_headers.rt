@@ -4,16 +4,14 @@ ghost use Rattle.std.specs.Prelude.{◌<◌, All};
 ghost use Rattle.nc_base.specs.Headers.{IsSound};
 ghost use Rattle.nc_types.specs.Versions.{offset_limit};
 
-use crate::header_rows::{EMPTY, HeaderRow, NamedShape, header_of};
+use crate::header_rows::{EMPTY, HeaderRow, NamedLength, NamedShape, header_of};
 use devices::SliceSink;
-use nc_base::{Header, NcType, NumRecs, Var, Version, weight};
+use nc_base::Version::{self, Cdf1, Cdf2, Cdf5};
+use nc_base::{Header, NcType, NumRecs, Var, weight};
 use nc_file::{OffsetTooLarge, header_len, with_begins, write_header};
-use std::alloc::{AllocError, Global};
 use std::process::Abort;
 use std::test::Fail;
-use test_files::{
-    ONE_VARIABLE, ONE_VARIABLE_CDF2, ONE_VARIABLE_CDF5, STREAMED_RECORDS, TEXT_ATTRIBUTE, patched,
-};
+use test_files::file_of;
 
 /// `short s(x)`, x = 3.
 const SHORTS: HeaderRow<'static> = HeaderRow {
@@ -41,43 +39,27 @@ const NOTED: HeaderRow<'static> = HeaderRow {
     ..EMPTY
 };
 
-/// Places in a header, and the bytes that are to stand there.
-type Patches = &'static [(usize, &'static [u8])];
-
-/// Headers, the files that begin with them, the bytes that differ there (the length of the dimension and the vsize; the length of the
-/// text and its padding), how many bytes they have, and their weights.
-static ROWS: &[(Version, HeaderRow<'static>, &[u8], Patches, usize, u128)] = &[
-    (Version::Cdf1, SHORTS, ONE_VARIABLE, &[], 80, 5),
-    (Version::Cdf2, SHORTS, ONE_VARIABLE_CDF2, &[], 84, 5),
-    (Version::Cdf5, SHORTS, ONE_VARIABLE_CDF5, &[], 128, 5),
+/// Headers, the words of the files that they are to be (of the two that differ, the length of the dimension and the vsize), and their
+/// weights.
+static ROWS: &[(Version, HeaderRow<'static>, &str, u128)] = &[
+    (Cdf1, SHORTS, "ONE_VARIABLE ..80", 5),
+    (Cdf2, SHORTS, "ONE_VARIABLE_CDF2 ..84", 5),
+    (Cdf5, SHORTS, "ONE_VARIABLE_CDF5 ..128", 5),
     (
-        Version::Cdf2,
+        Cdf2,
         LONG,
-        ONE_VARIABLE_CDF2,
-        &[(24, b"\x7f\xff\xff\xff"), (72, b"\xff\xff\xff\xff")],
-        84,
+        "ONE_VARIABLE_CDF2 ..84 24=7fffffff 72=ffffffff",
         5,
     ),
     (
-        Version::Cdf5,
+        Cdf5,
         LONG,
-        ONE_VARIABLE_CDF5,
-        &[
-            (36, b"\0\0\0\0\x7f\xff\xff\xff"),
-            (112, b"\0\0\0\x01\0\0\0\0"),
-        ],
-        128,
+        "ONE_VARIABLE_CDF5 ..128 36=000000007fffffff 112=0000000100000000",
         5,
     ),
-    (Version::Cdf1, STREAMING, STREAMED_RECORDS, &[], 44, 2),
-    (
-        Version::Cdf1,
-        NOTED,
-        TEXT_ATTRIBUTE,
-        &[(36, b"\0\0\0\x03"), (43, b"\0")],
-        52,
-        8,
-    ),
+    (Cdf1, STREAMING, "STREAMED_RECORDS ..44", 2),
+    // the length of the text, and its padding
+    (Cdf1, NOTED, "TEXT_ATTRIBUTE ..52 36=00000003 43=00", 8),
 ];
 
 /// The header of a row in this version.
@@ -111,27 +93,12 @@ fn expect_bytes(rt: &impl Abort, header: Header, want: &[u8]) {
     }
 }
 
-/// The first `len` bytes of a file, with others in some places.
-fn prefix_of(
-    alloc: Global,
-    file: &[u8],
-    patches: Patches,
-    len: usize,
-) -> Result<Vec<u8>, AllocError> {
-    let mut bytes = Vec::from_slice(alloc, file)?;
-    for (at, patch) in patches {
-        bytes = patched(alloc, bytes.as_slice(), *at, *patch)?;
-    }
-    bytes.truncate(len);
-    Ok(bytes)
-}
-
 #[test]
 fn headers_have_their_bytes(rt: HostRuntime) -> Result<(), Fail> {
-    for (version, row, file, patches, len, heavy) in ROWS {
+    for (version, row, words, heavy) in ROWS {
         let header = header_of(rt.alloc(), &of_version(*version, *row))?;
         assert!(rt; weight(&header) == *heavy, "{version:?}");
-        let want = prefix_of(rt.alloc(), *file, *patches, *len)?;
+        let want = file_of(rt.alloc(), *words)?;
         expect_bytes(&rt, header, want.as_slice());
     }
     Ok(())
@@ -157,55 +124,52 @@ fn expect_begins(rt: &impl Abort, header: Header, len: u64, begins: Option<&[u64
     }
 }
 
+/// A version, dimensions and variables, and the length and the begins of their header, unless an offset is too large.
+type Begun = (
+    Version,
+    &'static [NamedLength<'static>],
+    &'static [NamedShape<'static>],
+    u64,
+    Option<&'static [u64]>,
+);
+
 #[test]
 fn variables_begin_after_each_other(rt: HostRuntime) -> Result<(), Fail> {
     const BYTE: NamedShape<'static> = ("b", &[0], NcType::Byte, 0);
     const SHORT: NamedShape<'static> = ("s", &[0], NcType::Short, 0);
-    // records begin after the other variables
-    const RECORDS: HeaderRow<'static> = HeaderRow {
-        dims: &[("t", 0), ("y", 2), ("x", 2)],
-        vars: &[
-            ("a", &[0], NcType::Int, 0),
-            ("b", &[0, 1, 2], NcType::Int, 0),
-            ("c", &[], NcType::Int, 0),
-        ],
-        ..EMPTY
-    };
-    // narrow records are padded in company
-    const BOTH: HeaderRow<'static> = HeaderRow {
-        dims: &[("t", 0)],
-        vars: &[BYTE, SHORT],
-        ..EMPTY
-    };
-    const ALONE: HeaderRow<'static> = HeaderRow {
-        vars: &[BYTE],
-        ..BOTH
-    };
-    // offsets have a limit
-    const TOO_LONG: HeaderRow<'static> = HeaderRow {
-        dims: &[("x", 2147483647)],
-        vars: &[BYTE, BYTE],
-        ..EMPTY
-    };
-    const AT_LIMIT: HeaderRow<'static> = HeaderRow {
-        dims: &[("x", 2147483532)],
-        ..TOO_LONG
-    };
-    const BELOW: HeaderRow<'static> = HeaderRow {
-        dims: &[("x", 2147483528)],
-        ..TOO_LONG
-    };
-    static ROWS: &[(Version, HeaderRow<'static>, u64, Option<&[u64]>)] = &[
-        (Version::Cdf1, RECORDS, 180, Some(&[184, 188, 180])),
-        (Version::Cdf1, ALONE, 80, Some(&[80])),
-        (Version::Cdf1, BOTH, 116, Some(&[116, 120])),
-        (Version::Cdf1, TOO_LONG, 116, None),
-        (Version::Cdf2, TOO_LONG, 124, Some(&[124, 2147483772])),
-        (Version::Cdf1, AT_LIMIT, 116, None),
-        (Version::Cdf1, BELOW, 116, Some(&[116, 2147483644])),
+    const RECORDS: &[NamedShape<'static>] = &[
+        ("a", &[0], NcType::Int, 0),
+        ("b", &[0, 1, 2], NcType::Int, 0),
+        ("c", &[], NcType::Int, 0),
     ];
-    for (version, row, len, begins) in ROWS {
-        let header = header_of(rt.alloc(), &of_version(*version, *row))?;
+    const DIMS: &[NamedLength<'static>] = &[("t", 0), ("y", 2), ("x", 2)];
+    const T: &[NamedLength<'static>] = &[("t", 0)];
+    const ALONE: &[NamedShape<'static>] = &[BYTE];
+    const BOTH: &[NamedShape<'static>] = &[BYTE, SHORT];
+    const TWO: &[NamedShape<'static>] = &[BYTE, BYTE];
+    const TOO_LONG: &[NamedLength<'static>] = &[("x", 2147483647)];
+    const AT_LIMIT: &[NamedLength<'static>] = &[("x", 2147483532)];
+    const BELOW: &[NamedLength<'static>] = &[("x", 2147483528)];
+    static ROWS: &[Begun] = &[
+        // records begin after the other variables
+        (Cdf1, DIMS, RECORDS, 180, Some(&[184, 188, 180])),
+        // narrow records are padded in company
+        (Cdf1, T, ALONE, 80, Some(&[80])),
+        (Cdf1, T, BOTH, 116, Some(&[116, 120])),
+        // offsets have a limit
+        (Cdf1, TOO_LONG, TWO, 116, None),
+        (Cdf2, TOO_LONG, TWO, 124, Some(&[124, 2147483772])),
+        (Cdf1, AT_LIMIT, TWO, 116, None),
+        (Cdf1, BELOW, TWO, 116, Some(&[116, 2147483644])),
+    ];
+    for (version, dims, vars, len, begins) in ROWS {
+        let row = HeaderRow {
+            version: *version,
+            dims: *dims,
+            vars: *vars,
+            ..EMPTY
+        };
+        let header = header_of(rt.alloc(), &row)?;
         expect_begins(&rt, header, *len, *begins);
     }
     Ok(())
