@@ -19,6 +19,7 @@ static FILES: &[(&str, &[u8])] = &[
     ("ESCAPED_NAMES", ESCAPED_NAMES),
     ("FILLED_ROWS", FILLED_ROWS),
     ("FILLED_SHORTS", FILLED_SHORTS),
+    ("FILL_OF_ANOTHER_TYPE", FILL_OF_ANOTHER_TYPE),
     ("FILL_OF_BYTES", FILL_OF_BYTES),
     ("HELD_NULS", HELD_NULS),
     ("HOSTILE_COUNT", HOSTILE_COUNT),
@@ -49,6 +50,7 @@ static FILES: &[(&str, &[u8])] = &[
     ("THREE_VARIABLES", THREE_VARIABLES),
     ("TWO_RECORDS", TWO_RECORDS),
     ("TWO_RECORD_DIMS", TWO_RECORD_DIMS),
+    ("UNPADDED_BESIDE_FIXED", UNPADDED_BESIDE_FIXED),
     ("UNSIGNED_FILLS", UNSIGNED_FILLS),
     ("UNSIGNED_RECORDS", UNSIGNED_RECORDS),
 ];
@@ -59,25 +61,18 @@ static FILES: &[(&str, &[u8])] = &[
 pub fn file_of(alloc: Global, words: &str) -> Result<Vec<u8>, AllocError> {
     let mut bytes = Vec::new(alloc);
     for word in words.split(' ') {
-        bytes = changed(alloc, bytes, word)?;
+        if let Some(len) = word.strip_prefix("..") {
+            bytes.resize(len.parse().unwrap_or(0), 0)?;
+        } else if let Some((at, digits)) = word.split_once('=') {
+            let (at, change) = (at.parse().unwrap_or(0), hex_bytes(alloc, digits)?);
+            bytes.resize(bytes.len().max(change.len().saturating_add(at)), 0)?;
+            bytes = patched(alloc, bytes.as_slice(), at, change.as_slice())?;
+        } else {
+            let named = FILES.iter().find(|(name, _)| *name == word);
+            bytes = Vec::from_slice(alloc, named.map_or(b"no such file", |(_, file)| *file))?;
+        }
     }
     Ok(bytes)
-}
-
-/// The bytes after what a word says: those of a file, or these with a change.
-fn changed(alloc: Global, mut bytes: Vec<u8>, word: &str) -> Result<Vec<u8>, AllocError> {
-    if let Some(len) = word.strip_prefix("..") {
-        bytes.resize(len.parse().unwrap_or(0), 0)?;
-        return Ok(bytes);
-    }
-    let Some((at, digits)) = word.split_once('=') else {
-        let named = FILES.iter().find(|(name, _)| *name == word);
-        return Vec::from_slice(alloc, named.map_or(b"no such file", |(_, file)| *file));
-    };
-    let (at, change) = (at.parse().unwrap_or(0), hex_bytes(alloc, digits)?);
-    let len = bytes.len().max(change.len().saturating_add(at));
-    bytes.resize(len, 0)?;
-    patched(alloc, bytes.as_slice(), at, change.as_slice())
 }
 
 /// The bytes that digits spell in hexadecimal. There may be spaces between them.
