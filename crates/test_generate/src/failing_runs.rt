@@ -3,7 +3,8 @@
 use crate::full_disks::FullDisk;
 use crate::readers::{FailingReader, NEVER, WatchedTexts};
 use crate::rows::SHORTS;
-use devices::{CountedRead, OpenFailed, SliceSink};
+use devices::OpenFailed::{NotFound, NotRegular, Other, PermissionDenied};
+use devices::{CountedRead, SliceSink};
 use ncgen::run_with;
 use std::alloc::Global;
 use std::process::Abort;
@@ -46,18 +47,13 @@ fn ends(rt: &impl Abort, alloc: Global, run: &Run) {
     let mut disk = FullDisk::new(alloc, run.disk.0, run.disk.1);
     let mut space = [0; 64];
     let mut err = SliceSink::new(&mut space, 1);
-    let status = run_with(
-        &mut texts, &mut disk, alloc, run.words, &mut input, &mut err,
-    );
+    let words = run.words;
+    let status = run_with(&mut texts, &mut disk, alloc, words, &mut input, &mut err);
     let (held, _) = FILE.split_at(run.held.min(FILE.len()));
-    assert!(rt; status == !run.line.is_empty() as u8, "{:?}", run.words);
-    assert!(rt;
-        is_same(err.taken(), run.line),
-        "the line of {:?}",
-        run.words
-    );
-    assert!(rt; is_same(disk.held(), held), "the file of {:?}", run.words);
-    assert!(rt; texts.counts() == run.opened, "the text of {:?}", run.words);
+    assert!(rt; status == !run.line.is_empty() as u8, "{words:?}");
+    assert!(rt; is_same(err.taken(), run.line), "the line of {words:?}");
+    assert!(rt; is_same(disk.held(), held), "the file of {words:?}");
+    assert!(rt; texts.counts() == run.opened, "the text of {words:?}");
 }
 
 /// Returns true if these are the same bytes.
@@ -68,31 +64,17 @@ fn is_same(bytes: &[u8], others: &[u8]) -> bool {
 /// A text that can't be opened has its line, whatever the reason, and no output is created.
 #[test]
 fn text_that_is_refused_has_its_line(rt: HostRuntime) {
-    for why in [
-        OpenFailed::NotFound,
-        OpenFailed::PermissionDenied,
-        OpenFailed::NotRegular,
-        OpenFailed::Other,
-    ] {
+    let alloc = rt.alloc();
+    for why in [NotFound, PermissionDenied, NotRegular, Other] {
         let mut texts = Refusing::new(why);
         let mut input = CountedRead::new(FailingReader::new(b"", 7, NEVER));
-        let mut disk = FullDisk::new(rt.alloc(), 0, 0);
+        let mut disk = FullDisk::new(alloc, 0, 0);
         let mut space = [0; 64];
         let mut err = SliceSink::new(&mut space, 1);
         let words = ["ncgen", "-b", "t.cdl"];
-        let status = run_with(
-            &mut texts,
-            &mut disk,
-            rt.alloc(),
-            &words,
-            &mut input,
-            &mut err,
-        );
-        assert!(rt; status == 1 && texts.opens() == 1, "{why:?}");
-        assert!(rt;
-            is_same(err.taken(), b"ncgen: t.cdl: cannot open\n"),
-            "{why:?}"
-        );
+        let status = run_with(&mut texts, &mut disk, alloc, &words, &mut input, &mut err);
+        let is_told = is_same(err.taken(), b"ncgen: t.cdl: cannot open\n");
+        assert!(rt; status == 1 && texts.opens() == 1 && is_told, "{why:?}");
     }
 }
 

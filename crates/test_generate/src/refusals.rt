@@ -1,24 +1,30 @@
 //! Texts that give no file: nothing of it is written.
 
-use cdl_parse::{CdlFault, CdlKind};
 use devices::SliceSink;
 use nc_base::Version;
 use ncgen::{GenFault, generate, prepare};
-use std::alloc::Global;
+use std::alloc::{AllocError, Global};
 use std::process::Abort;
 use std::test::*;
+use test_files::char_bytes;
 
-/// Fails unless the text gives this fault where it is prepared, and where it is generated, with nothing written.
-fn is_refused(rt: &impl Abort, alloc: Global, version: Version, text: &[u8], want: GenFault) {
-    let fault = prepare(alloc, text, version).err();
-    assert!(rt; fault == Some(want), "{want} in {version:?}");
+/// Fails unless the text gives the fault of these words where it is prepared, and where it is generated, with nothing written.
+fn is_refused(rt: &impl Abort, alloc: Global, version: Version, text: &[u8], words: &str) {
     let mut into = [0; 16];
     let mut sink = SliceSink::new(&mut into, 16);
-    let answer = generate(alloc, text, version, &mut sink);
-    assert!(rt;
-        answer == Err(want) && sink.taken().is_empty(),
-        "{want} in {version:?}"
-    );
+    let fault = prepare(alloc, text, version).err();
+    let answer = generate(alloc, text, version, &mut sink).err();
+    assert!(rt; has_words(alloc, fault, words), "{words} in {version:?}");
+    let is_same = answer == fault && sink.taken().is_empty();
+    assert!(rt; is_same, "{words} in {version:?}");
+}
+
+/// Returns true if there is a fault, which is displayed as these words.
+fn has_words(alloc: Global, fault: Option<GenFault>, words: &str) -> bool {
+    match fault {
+        Some(fault) => format!(in alloc; "{fault}").is_ok_and(|said| said.as_str() == words),
+        None => false,
+    }
 }
 
 /// Returns true if the text is prepared.
@@ -26,69 +32,34 @@ fn is_prepared(alloc: Global, text: &[u8], version: Version) -> bool {
     prepare(alloc, text, version).is_ok()
 }
 
-/// Texts with a fault in each version, its line and its kind.
-static FAULTS: &[(&[u8], u64, CdlKind)] = &[
-    (
-        b"netcdf t {\ndimensions: x = 3 ;\nvariables: short s(x) ;\ndata:\n s = 1.5 ;\n}\n",
-        5,
-        CdlKind::BadNumber,
-    ),
-    (
-        b"netcdf t {\ndimensions: x = 3 ;\nvariables: short s(x) ;\ndata:\n s = 40000 ;\n}\n",
-        5,
-        CdlKind::NumberRange,
-    ),
-    (
-        b"netcdf t {\ndimensions: x = 3 ;\nvariables: short s(x) ;\ndata:\n s = 1, 2, 3, 4 ;\n}\n",
-        5,
-        CdlKind::TooManyValues,
-    ),
-    (
-        b"netcdf t {\ndimensions: x = 2, y = 1 ;\nvariables: char c(x, y) ;\ndata: c = \"a\", \"ab\" ;\n}\n",
-        4,
-        CdlKind::StringTooLong,
-    ),
-    (
-        b"netcdf t {\ndimensions: x = 0 ;\ndata: q = 1 ;\n}\n",
-        2,
-        CdlKind::ZeroDimension,
-    ),
-    // the second variable would begin past the offsets of CDF-1
-    (
-        b"netcdf t {\ndimensions: x = 2147483647 ;\nvariables: byte a(x), b(x) ;\ndata: a = 128 ;\n}\n",
-        4,
-        CdlKind::NumberRange,
-    ),
-    (
-        b"netcdf t {\ndimensions: x = 2147483647 ;\nvariables: byte a(x), b(x), c(x, x) ;\n}\n",
-        4,
-        CdlKind::TooLarge,
-    ),
-];
-
-/// Fails unless the text has this fault in each version.
-fn is_refused_in_all(rt: &impl Abort, alloc: Global, text: &[u8], line: u64, kind: CdlKind) {
-    let fault = GenFault::Cdl(CdlFault { line, kind });
-    is_refused(rt, alloc, Version::Cdf1, text, fault);
-    is_refused(rt, alloc, Version::Cdf2, text, fault);
-    is_refused(rt, alloc, Version::Cdf5, text, fault);
-}
+/// Texts with a fault in each version: the words of the fault, and the text, with `^` for a line feed.
+const FAULTS: &str = r#"
+line 5: bad number|netcdf t {^dimensions: x = 3 ;^variables: short s(x) ;^data:^ s = 1.5 ;^}^
+line 5: number out of range|netcdf t {^dimensions: x = 3 ;^variables: short s(x) ;^data:^ s = 40000 ;^}^
+line 5: too many values|netcdf t {^dimensions: x = 3 ;^variables: short s(x) ;^data:^ s = 1, 2, 3, 4 ;^}^
+line 4: string too long|netcdf t {^dimensions: x = 2, y = 1 ;^variables: char c(x, y) ;^data: c = "a", "ab" ;^}^
+line 2: zero dimension|netcdf t {^dimensions: x = 0 ;^data: q = 1 ;^}^
+# the second variable would begin past the offsets of CDF-1
+line 4: number out of range|netcdf t {^dimensions: x = 2147483647 ;^variables: byte a(x), b(x) ;^data: a = 128 ;^}^
+line 4: too large|netcdf t {^dimensions: x = 2147483647 ;^variables: byte a(x), b(x), c(x, x) ;^}^
+"#;
 
 #[test]
-fn texts_that_give_no_file(rt: HostRuntime) {
+fn texts_that_give_no_file(rt: HostRuntime) -> Result<(), AllocError> {
     // 116 bytes of header: after 2147483528 bytes of values the next ones begin at 2147483644, and after 4 more at 2^31
     const LAST: &[u8] = b"netcdf t { dimensions: x = 2147483528 ; variables: byte a(x), b(x) ; }";
     const NEXT: &[u8] = b"netcdf t { dimensions: x = 2147483529 ; variables: byte a(x), b(x) ; }";
-    for (text, line, kind) in FAULTS {
-        is_refused_in_all(&rt, rt.alloc(), *text, *line, *kind);
+    let alloc = rt.alloc();
+    for row in FAULTS.split('\n') {
+        if let Some((words, text)) = row.split_once('|') {
+            let text = char_bytes(alloc, text)?;
+            for version in [Version::Cdf1, Version::Cdf2, Version::Cdf5] {
+                is_refused(&rt, alloc, version, text.as_slice(), words);
+            }
+        }
     }
-    is_refused(
-        &rt,
-        rt.alloc(),
-        Version::Cdf1,
-        NEXT,
-        GenFault::OffsetTooLarge,
-    );
-    assert!(rt; is_prepared(rt.alloc(), LAST, Version::Cdf1));
-    assert!(rt; is_prepared(rt.alloc(), NEXT, Version::Cdf2));
+    is_refused(&rt, alloc, Version::Cdf1, NEXT, "offset too large");
+    assert!(rt; is_prepared(alloc, LAST, Version::Cdf1));
+    assert!(rt; is_prepared(alloc, NEXT, Version::Cdf2));
+    Ok(())
 }

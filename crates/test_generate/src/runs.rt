@@ -25,6 +25,9 @@ const TEXTS: [MemFile<'static>; 3] = [
     },
 ];
 
+/// These texts, and a text on standard input.
+const GIVEN: (&[MemFile<'static>], &[u8]) = (&TEXTS, SHORTS);
+
 /// Fails unless a run on these words, texts and standard input ends with this line on standard error, and the path is given these bytes,
 /// or no path any. A run without a line succeeds.
 fn ends(
@@ -61,7 +64,6 @@ fn is_file(made: &MadeFile, path: &str, bytes: &[u8]) -> bool {
     made.path() == path && made.bytes() == bytes
 }
 
-/// The file of the text in CDF-1, CDF-2 and CDF-5.
 /// The file of the text in this version.
 fn file_in(version: Version) -> &'static [u8] {
     match version {
@@ -92,14 +94,7 @@ fn words_choose_the_output_and_its_version(rt: HostRuntime) -> Result<(), AllocE
     for (text, path, version) in FILES {
         let words = parts_of(rt.alloc(), *text, ' ')?;
         let made = Some((*path, file_in(*version)));
-        ends(
-            &rt,
-            rt.alloc(),
-            words.as_slice(),
-            (&TEXTS, SHORTS),
-            b"",
-            made,
-        );
+        ends(&rt, rt.alloc(), words.as_slice(), GIVEN, b"", made);
     }
     Ok(())
 }
@@ -115,7 +110,7 @@ fn kinds_with_a_space(rt: HostRuntime) {
     for (kind, version) in SPACED {
         let words = ["ncgen", "-o", "x", "-k", *kind];
         let made = Some(("x", file_in(*version)));
-        ends(&rt, rt.alloc(), &words, (&TEXTS, SHORTS), b"", made);
+        ends(&rt, rt.alloc(), &words, GIVEN, b"", made);
     }
 }
 
@@ -180,25 +175,11 @@ ncgen -x d/f.cdl";
 fn other_words_have_the_usage(rt: HostRuntime) -> Result<(), AllocError> {
     for text in USAGE_FAULTS.split('\n') {
         let words = parts_of(rt.alloc(), text, ' ')?;
-        ends(
-            &rt,
-            rt.alloc(),
-            words.as_slice(),
-            (&TEXTS, SHORTS),
-            USAGE,
-            None,
-        );
+        ends(&rt, rt.alloc(), words.as_slice(), GIVEN, USAGE, None);
     }
     // no memory is lacking where there are many words
     let many = Vec::from_elem(rt.alloc(), "d/f.cdl", 100)?;
-    ends(
-        &rt,
-        rt.alloc(),
-        many.as_slice(),
-        (&TEXTS, SHORTS),
-        USAGE,
-        None,
-    );
+    ends(&rt, rt.alloc(), many.as_slice(), GIVEN, USAGE, None);
     Ok(())
 }
 
@@ -241,14 +222,8 @@ fn runs_without_an_output(rt: HostRuntime) -> Result<(), AllocError> {
     ];
     for (text, input, line) in LINES {
         let words = parts_of(rt.alloc(), *text, ' ')?;
-        ends(
-            &rt,
-            rt.alloc(),
-            words.as_slice(),
-            (&texts, *input),
-            *line,
-            None,
-        );
+        let given = (texts.as_slice(), *input);
+        ends(&rt, rt.alloc(), words.as_slice(), given, *line, None);
     }
     Ok(())
 }

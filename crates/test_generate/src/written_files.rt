@@ -1,6 +1,6 @@
 //! Files that are written into sinks with little room, and how often a writer is called.
 
-use crate::rows::{self, Row};
+use crate::rows::{ROWS, Row, row_of};
 use devices::{IoSink, SliceSink};
 use nc_base::Version;
 use ncgen::{GenFault, generate};
@@ -24,35 +24,28 @@ fn begins(
     let mut into = Vec::from_elem(alloc, 0, bytes.len())?;
     let mut sink = SliceSink::new(into.as_mut_slice(), step);
     let answer = generate(alloc, text, version, &mut sink);
-    assert!(rt;
-        answer == want && sink.taken() == bytes,
-        "{} in {version:?}",
-        bytes.len()
-    );
+    let is_right = answer == want && sink.taken() == bytes;
+    assert!(rt; is_right, "{} in {version:?}", bytes.len());
     Ok(())
 }
 
 /// Fails unless sinks of every length up to that of the file, which take this many bytes a call, have what they have room for.
 fn fills_each(rt: &impl Abort, alloc: Global, row: &Row, step: usize) -> Result<(), AllocError> {
-    let of_row = (row.version, row.cdl);
-    for room in 0..row.file.len() {
+    let of_row = (row.version, row.cdl.as_slice());
+    let file = row.file.as_slice();
+    for room in 0..file.len() {
         let cut = Err(GenFault::WriteFailed);
-        begins(rt, alloc, of_row, step, &row.file[..room], cut)?;
+        begins(rt, alloc, of_row, step, &file[..room], cut)?;
     }
-    begins(rt, alloc, of_row, step, row.file, Ok(()))
+    begins(rt, alloc, of_row, step, file, Ok(()))
 }
 
 #[test]
 fn sinks_of_every_length(rt: HostRuntime) -> Result<(), AllocError> {
-    static ROWS: &[Row] = &[
-        rows::ONE_VARIABLE,
-        rows::ONE_VARIABLE_CDF5,
-        rows::RANK_THREE,
-        rows::PADDED_RECORDS,
-    ];
-    for row in ROWS {
-        fills_each(&rt, rt.alloc(), row, 1)?;
-        fills_each(&rt, rt.alloc(), row, 7)?;
+    for block in ROWS.split("\n\n") {
+        let row = row_of(&rt, rt.alloc(), block)?;
+        fills_each(&rt, rt.alloc(), &row, 1)?;
+        fills_each(&rt, rt.alloc(), &row, 7)?;
     }
     Ok(())
 }
@@ -108,14 +101,8 @@ fn files_of_four_gigabytes(rt: HostRuntime) -> Result<(), AllocError> {
         ((Version::Cdf5, PAST_32_BITS), PAST_32_BITS_CDF5),
     ];
     for (text, bytes) in ROWS {
-        begins(
-            &rt,
-            rt.alloc(),
-            *text,
-            4096,
-            *bytes,
-            Err(GenFault::WriteFailed),
-        )?;
+        let cut = Err(GenFault::WriteFailed);
+        begins(&rt, rt.alloc(), *text, 4096, *bytes, cut)?;
     }
     Ok(())
 }
@@ -156,17 +143,12 @@ fn writes_of_long_files(rt: HostRuntime) -> Result<(), AllocError> {
     const FIXED: &str = "netcdf t {\ndimensions: x = 50000 ;\nvariables: short s(x) ;\ndata: s = 1";
     const RECORDS: &str =
         "netcdf t {\ndimensions: t = UNLIMITED ;\nvariables: short s(t) ;\ndata: s = 1";
+    const NOTE: &str = "netcdf t {\n:note = \"";
     static ROWS: &[(&str, (&str, usize), &str, u64, u64)] = &[
         (FIXED, (", 1", 49_999), " ;\n}\n", 100_080, 40),
         (FIXED, (", 1", 2), " ;\n}\n", 100_080, 60),
         (RECORDS, (", 1", 49_999), " ;\n}\n", 100_080, 40),
-        (
-            "netcdf t {\n:note = \"",
-            ("a", 100_000),
-            "\" ;\n}\n",
-            100_048,
-            30,
-        ),
+        (NOTE, ("a", 100_000), "\" ;\n}\n", 100_048, 30),
     ];
     for (head, (piece, count), tail, len, calls) in ROWS {
         let pieces = piece.repeat(rt.alloc(), *count)?;
