@@ -45,18 +45,10 @@ fn each_prefix_of_a_text(rt: HostRuntime) -> Result<(), AllocError> {
 #[test]
 fn a_long_name(rt: HostRuntime) -> Result<(), AllocError> {
     let name = "n".repeat(rt.alloc(), 65536)?;
-    let text = joined(
-        rt.alloc(),
-        &["netcdf t { dimensions: ", name.as_str(), " = 3 ; }"],
-    )?;
-    let want = joined(rt.alloc(), &["Known(0)\n", name.as_str(), " = 3"])?;
-    gives(
-        &rt,
-        rt.alloc(),
-        Version::Cdf1,
-        text.as_bytes(),
-        want.as_bytes(),
-    )
+    let text = format!(in rt.alloc(); "netcdf t {{ dimensions: {name} = 3 ; }}")?;
+    let want = format!(in rt.alloc(); "Known(0)\n{name} = 3")?;
+    let (text, want) = (text.as_bytes(), want.as_bytes());
+    gives(&rt, rt.alloc(), Version::Cdf1, text, want)
 }
 
 /// A list of 10,000 bytes and one of strings, with forty thousand line feeds in them, between them and after them, and then this list.
@@ -95,13 +87,8 @@ fn faults_after_long_lists(rt: HostRuntime) -> Result<(), AllocError> {
     ];
     for (last, want) in ROWS {
         let text = long_lists(rt.alloc(), *last)?;
-        gives(
-            &rt,
-            rt.alloc(),
-            Version::Cdf1,
-            text.as_bytes(),
-            want.as_bytes(),
-        )?;
+        let (text, want) = (text.as_bytes(), want.as_bytes());
+        gives(&rt, rt.alloc(), Version::Cdf1, text, want)?;
     }
     Ok(())
 }

@@ -121,84 +121,20 @@ fn texts_have_their_tokens(rt: HostRuntime) -> Result<(), AllocError> {
     Ok(())
 }
 
-/// Ranges of bytes: the first byte of each, and the last.
-type Ranges = &'static [(u8, u8)];
-
-/// What stands before a byte and after it, the kind of the first token there and how many bytes it has, and the bytes for which it is so.
-static CLASSES: &[(&str, &str, TokenKind, usize, Ranges)] = &[
-    ("", "", TokenKind::End, 0, &[(9, 13), (32, 32)]),
-    ("", "", TokenKind::Number, 1, &[(b'0', b'9')]),
-    (
-        "",
-        "1",
-        TokenKind::Number,
-        2,
-        &[(b'+', b'+'), (b'-', b'.'), (b'0', b'9')],
-    ),
-    (
-        "1",
-        "",
-        TokenKind::Number,
-        2,
-        &[
-            (b'.', b'.'),
-            (b'0', b'9'),
-            (b'A', b'Z'),
-            (b'_', b'_'),
-            (b'a', b'z'),
-        ],
-    ),
-    (
-        "",
-        "",
-        TokenKind::Word,
-        1,
-        &[(b'A', b'Z'), (b'_', b'_'), (b'a', b'z'), (128, 255)],
-    ),
-    (
-        "a",
-        "",
-        TokenKind::Word,
-        2,
-        &[
-            (b'+', b'+'),
-            (b'-', b'.'),
-            (b'0', b'9'),
-            (b'@', b'Z'),
-            (b'_', b'_'),
-            (b'a', b'z'),
-            (128, 255),
-        ],
-    ),
-    ("\\", "", TokenKind::Word, 2, &[(b' ', b'~'), (128, 255)]),
-    (
-        "",
-        "",
-        TokenKind::Mark,
-        1,
-        &[
-            (b'(', b')'),
-            (b',', b','),
-            (b':', b';'),
-            (b'=', b'='),
-            (b'}', b'}'),
-        ],
-    ),
+/// What stands before a byte and after it, the kind of the first token there and how many bytes it has, and the bytes for which it is so:
+/// ranges, one after the other, the first byte of each and the last.
+static CLASSES: &[(&str, &str, TokenKind, usize, &[u8])] = &[
+    ("", "", TokenKind::End, 0, b"\x09\x0d  "),
+    ("", "", TokenKind::Number, 1, b"09"),
+    ("", "1", TokenKind::Number, 2, b"++-.09"),
+    ("1", "", TokenKind::Number, 2, b"..09AZ__az"),
+    ("", "", TokenKind::Word, 1, b"AZ__az\x80\xff"),
+    ("a", "", TokenKind::Word, 2, b"++-.09@Z__az\x80\xff"),
+    ("\\", "", TokenKind::Word, 2, b" ~\x80\xff"),
+    ("", "", TokenKind::Mark, 1, b"(),,:;==}}"),
     // hexadecimal digits; and octal ones, after which the number is too great (after a backslash, the string has no end)
-    (
-        "\"\\x",
-        "\"",
-        TokenKind::Text,
-        5,
-        &[(b'0', b'9'), (b'A', b'F'), (b'a', b'f')],
-    ),
-    (
-        "\"\\40",
-        "\"",
-        TokenKind::Bad,
-        6,
-        &[(b'0', b'7'), (b'\\', b'\\')],
-    ),
+    ("\"\\x", "\"", TokenKind::Text, 5, b"09AFaf"),
+    ("\"\\40", "\"", TokenKind::Bad, 6, b"07\\\\"),
 ];
 
 /// The first token of a text of a byte between two parts.
@@ -210,10 +146,9 @@ fn first_token(alloc: Global, before: &str, byte: u8, after: &str) -> Result<Tok
 }
 
 /// Returns true if the byte is in one of the ranges.
-fn is_in(ranges: &[(u8, u8)], byte: u8) -> bool {
-    ranges
-        .iter()
-        .any(|(first, last)| *first <= byte && byte <= *last)
+fn is_in(ranges: &[u8], byte: u8) -> bool {
+    let mut pairs = ranges.chunks(2);
+    pairs.any(|pair| matches!(pair, [first, last] if *first <= byte && byte <= *last))
 }
 
 #[test]
