@@ -9,7 +9,7 @@
 #
 # A program says in one line that it is out of memory where one of its allocations is refused (nccheck with status 2), writes nothing
 # else, and leaves an old output as it was; where none is, it does what it was asked for. So it does where room for one of two lists of
-# its words is refused: that is asked for again.
+# its words is refused: that is asked for again. nccheck is out of memory for one file alone: it checks the others, and counts this one.
 set -u
 . "$(dirname "$0")/verdicts.sh"
 crate=$top/crates/test_allocation
@@ -68,17 +68,18 @@ makes() {
     cp "$2" "$work/want/$made"
 }
 
-# status that a program ends with if it is out of memory
+# status that a program ends with if it is out of memory, and what it writes all the same if that is so for its file and not for its words
 trouble=1
+rest=
 
 # is_out_of_memory OF: the last run says that it is, for its text or file OF, or for its words, or that it can't open its output, for
-# which it has no buffer; nothing else is written, and an old output is as it was.
+# which it has no buffer; nothing else is written but what is written all the same, and an old output is as it was.
 is_out_of_memory() {
     local old=
     if [ -n "$made" ]; then IFS= read -r -d '' old <"$made"; fi
-    [ "$status" = "status $trouble" ] && [ -z "$out" ] && [ "$old" = "${made:+$'old\n'}" ] || return
-    [ "$err" = "$1: out of memory"$'\n' ] || [ "$err" = "${1%%:*}: out of memory"$'\n' ] ||
-        [ "$err" = "ncgen: $made: cannot open"$'\n' ]
+    [ "$status" = "status $trouble" ] && [ "$old" = "${made:+$'old\n'}" ] || return
+    [ "$err$out" = "$1: out of memory"$'\n'"$rest" ] || [ "$err$out" = "${1%%:*}: out of memory"$'\n' ] ||
+        [ "$err$out" = "ncgen: $made: cannot open"$'\n' ]
 }
 
 # runs_out OF COMMAND..: the command is out of memory where one of its allocations is refused, but for two, without which it does what is
@@ -138,6 +139,29 @@ check_of_a_list() {
     printf '%s\0' "$samples/counters.nc" | "$nccheck" -s -0
 }
 
+# spares NAME LINE FILE..: bin/nccheck finds this in each of the files. Where one of its allocations is refused, it is out of memory for one
+# of them, and finds it in the others, or it is out of memory for its words; but for two, without which it does all.
+spares() {
+    local n again=0 want file line=$2
+    for ((n = 1; ; n++)); do
+        refuse "$n" "$nccheck" "${@:3}"
+        want=
+        for file in "${@:3}"; do
+            if [ "$err" != "nccheck: $file: out of memory"$'\n' ]; then want+=$file$line; fi
+        done
+        if [ "$err" = $'nccheck: out of memory\n' ]; then want=; fi
+        if [ -z "$err" ]; then again=$((again + 1)); fi
+        if [ "$out" != "$want" ] || [ "$again" -gt 2 ] && [ "$n" -le "$allocations" ]; then
+            fails "$1"
+            return
+        fi
+        if [ "$allocations" -lt "$n" ]; then break; fi
+    done
+    echo "$out$err" >"$work/want/stdout"
+    cp "$work/want/stdout" "$work/got/stdout"
+    verdict "$1" 1
+}
+
 # tests_of_the_crate: their names, as the program lists them.
 tests_of_the_crate() {
     "$tests" --list | grep ': test$' | sort
@@ -186,8 +210,12 @@ head -c 500 "$samples/stations.nc" >../cut.nc
 stdout '../cut.nc:500: error: missing: var[2] "temperature" record 2: found 500 bytes, expected at least 504\n'
 endures check_of_a_cut_file 1 'nccheck: ../cut.nc' "$nccheck" ../cut.nc
 stdout '1 checked: 0 with errors, 0 with violations, 0 with notes, 1 with nothing to report; 0 not checked\n'
+rest=$'0 checked: 0 with errors, 0 with violations, 0 with notes, 0 with nothing to report; 1 not checked\n'
 endures check_of_a_list 0 "nccheck: $samples/counters.nc" check_of_a_list
+for copy in 1 2 3; do cp ../cut.nc "../cut$copy.nc"; done
+spares check_of_three_files $':500: error: missing: var[2] "temperature" record 2: found 500 bytes, expected at least 504\n' ../cut{1,2,3}.nc
 trouble=1
+rest=
 
 # Of each of many variables no more is held than its name and a few numbers: at most 1,500 bytes are asked for in a dump, and 3,000
 # where a file is made, with those that are given back as lists grow.

@@ -55,7 +55,7 @@ cp cut.nc $'caf\303\251\n\\\'.nc'
 stdout "caf\303\251\\\\n\\\\\\\\'.nc:500: error: $missing\n"
 run "$nccheck" $'caf\303\251\n\\\'.nc'
 verdict path_with_a_line_end 1
-stderr "nccheck: $(letters 64 p)...: cannot open\n"
+stderr "nccheck: $(letters 64 p)...: cannot open: the path is too long\n"
 stdout '1 checked: 0 with errors, 0 with violations, 0 with notes, 1 with nothing to report; 1 not checked\n'
 run bash -c "$(declare -f letters)"'; { letters 65536 p; printf "\0stations.nc"; } | "$0" -0 -s' "$nccheck"
 verdict path_that_is_too_long 2

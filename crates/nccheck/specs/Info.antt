@@ -30,7 +30,7 @@ option_lines =
     ++ codes "  -s        count the files in a last line\n"
     ++ codes "  -0        check the files too whose paths standard input has, each ended by a NUL\n"
     ++ codes "  -l level  report what is at least as grave: error, violation (the default) or note\n"
-    ++ codes "  -i kinds  report nothing of these kinds, which have commas between them\n"
+    ++ codes "  -i kinds  ignore findings of these kinds (a comma-separated list)\n"
     ++ codes "  -V        print the version\n"
     ++ codes "  -h        print this help\n"
     ++ codes "nccheck(1), its manual page, lists the kinds.\n"

@@ -81,7 +81,7 @@ fn option_lines() -> &'static [u8]
     -s        count the files in a last line\n  \
     -0        check the files too whose paths standard input has, each ended by a NUL\n  \
     -l level  report what is at least as grave: error, violation (the default) or note\n  \
-    -i kinds  report nothing of these kinds, which have commas between them\n  \
+    -i kinds  ignore findings of these kinds (a comma-separated list)\n  \
     -V        print the version\n  \
     -h        print this help\nnccheck(1), its manual page, lists the kinds.\n"
 }

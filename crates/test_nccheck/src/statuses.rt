@@ -17,9 +17,9 @@ const HELP: &[u8] = b"usage: nccheck [-q] [-s] [-0] [-l level] [-i kinds] [file 
     -s        count the files in a last line\n  \
     -0        check the files too whose paths standard input has, each ended by a NUL\n  \
     -l level  report what is at least as grave: error, violation (the default) or note\n  \
-    -i kinds  report nothing of these kinds, which have commas between them\n  \
+    -i kinds  ignore findings of these kinds (a comma-separated list)\n  \
     -V        print the version\n  \
-    -h        print this help\n";
+    -h        print this help\nnccheck(1), its manual page, lists the kinds.\n";
 
 /// How many bytes standard output takes where it doesn't fail.
 const ROOM: usize = 1024;
@@ -69,7 +69,7 @@ const RUNS: &str = r#"
 0 nccheck -V
 >nccheck 0.3.3
 
-0 nccheck -x none -V -h
+0 nccheck -x none --version -h
 >nccheck 0.3.3
 
 2 nccheck -- -V -h
@@ -117,8 +117,8 @@ const LISTS: &str = r#"
 2 nccheck -0
 <café.nc^^names^
 >names:84: violation: duplicate-name: var[1] "x" name: found the name of number 0
-!nccheck: caf\351.nc: cannot open
-!nccheck: : cannot open: no such file
+!nccheck: caf\351.nc: cannot open: the path is not UTF-8
+!nccheck: : cannot open: the path is empty
 
 # a list that can't be read on
 2 nccheck -0 -q -s
@@ -146,6 +146,7 @@ nccheck -i gap -i vsize names";
 /// Other runs.
 static OTHERS: &[Run<'_>] = &[
     (&["nccheck", "-h"], ROOM, 0, HELP, b""),
+    (&["nccheck", "--help"], ROOM, 0, HELP, b""),
     (&["nccheck", "-q", "-q", "-h", "-V"], ROOM, 0, HELP, b""),
     // a path with control characters and backslashes, which are escaped, and with quotes and letters, which are not
     (
