@@ -209,8 +209,8 @@ trouble=2
 head -c 500 "$samples/stations.nc" >../cut.nc
 stdout '../cut.nc:500: error: missing: var[2] "temperature" record 2: found 500 bytes, expected at least 504\n'
 endures check_of_a_cut_file 1 'nccheck: ../cut.nc' "$nccheck" ../cut.nc
-stdout '1 checked: 0 with errors, 0 with violations, 0 with notes, 1 with nothing to report; 0 not checked\n'
-rest=$'0 checked: 0 with errors, 0 with violations, 0 with notes, 0 with nothing to report; 1 not checked\n'
+stdout '1 checked: 0 with errors, 0 with violations, 0 with notes, 1 with nothing to report; 0 of other formats; 0 not checked\n'
+rest=$'0 checked: 0 with errors, 0 with violations, 0 with notes, 0 with nothing to report; 0 of other formats; 1 not checked\n'
 endures check_of_a_list 0 "nccheck: $samples/counters.nc" check_of_a_list
 for copy in 1 2 3; do cp ../cut.nc "../cut$copy.nc"; done
 spares check_of_three_files $':500: error: missing: var[2] "temperature" record 2: found 500 bytes, expected at least 504\n' ../cut{1,2,3}.nc

@@ -24,7 +24,7 @@ stdout "cut.nc:500: error: $missing\n"
 stderr 'nccheck: none.nc: cannot open: no such file\nnccheck: dir: cannot open: not a regular file\n'
 run "$nccheck" none.nc dir cut.nc
 verdict trouble_and_a_cut_file 2
-stdout '2 checked: 1 with errors, 0 with violations, 0 with notes, 1 with nothing to report; 2 not checked\n'
+stdout '2 checked: 1 with errors, 0 with violations, 0 with notes, 1 with nothing to report; 0 of other formats; 2 not checked\n'
 stderr 'nccheck: none.nc: cannot open: no such file\nnccheck: dir: cannot open: not a regular file\n'
 run "$nccheck" -q -s none.nc dir cut.nc stations.nc
 verdict summary 2
@@ -39,7 +39,7 @@ verdict link_to_itself_and_a_pipe 2
 # Paths on standard input
 stdout "cut.nc:500: error: $missing
 cut.nc:500: error: $missing
-3 checked: 2 with errors, 0 with violations, 0 with notes, 1 with nothing to report; 3 not checked\n"
+3 checked: 2 with errors, 0 with violations, 0 with notes, 1 with nothing to report; 0 of other formats; 3 not checked\n"
 stderr 'nccheck: none.nc: cannot open: no such file\nnccheck: caf\\351.nc: cannot open\nnccheck: : cannot open: no such file\n'
 run bash -c 'printf "caf\351.nc\0\0stations.nc\0cut.nc" | "$0" -0 -s cut.nc none.nc' "$nccheck"
 verdict list_after_the_words 2
@@ -56,7 +56,7 @@ stdout "caf\303\251\\\\n\\\\\\\\'.nc:500: error: $missing\n"
 run "$nccheck" $'caf\303\251\n\\\'.nc'
 verdict path_with_a_line_end 1
 stderr "nccheck: $(letters 64 p)...: cannot open: the path is too long\n"
-stdout '1 checked: 0 with errors, 0 with violations, 0 with notes, 1 with nothing to report; 1 not checked\n'
+stdout '1 checked: 0 with errors, 0 with violations, 0 with notes, 1 with nothing to report; 0 of other formats; 1 not checked\n'
 run bash -c "$(declare -f letters)"'; { letters 65536 p; printf "\0stations.nc"; } | "$0" -0 -s' "$nccheck"
 verdict path_that_is_too_long 2
 {
@@ -175,7 +175,7 @@ run bash -c '"$0" long.nc >long.txt; status=$?; [ "$(wc -l <long.txt)" = 3001 ] 
 verdict lines_on_attributes_of_a_long_name 1
 
 # A list of ten thousand files too, which is checked as it is read: the first file has its line before the list has ended.
-stdout '10000 checked: 10000 with errors, 0 with violations, 0 with notes, 0 with nothing to report; 0 not checked\n'
+stdout '10000 checked: 10000 with errors, 0 with violations, 0 with notes, 0 with nothing to report; 0 of other formats; 0 not checked\n'
 run bash -c 'ulimit -v 20000 && for _ in {1..10}; do printf "%s\0" many/*.nc; done | "$0" -q -s -0' "$nccheck"
 verdict long_list 1
 stdout "cut.nc:500: error: $missing\n"

@@ -213,7 +213,7 @@ recipe 'nccheck -q f.nc'
 verdict cut_file_to_look_at 0
 cp "$samples/stations.nc" whole.nc
 found='./f.nc:500: error: missing: var[2] "temperature" record 2: found 500 bytes, expected at least 504\n'
-counted='2 checked: 1 with errors, 0 with violations, 0 with notes, 1 with nothing to report; 0 not checked\n'
+counted='2 checked: 1 with errors, 0 with violations, 0 with notes, 1 with nothing to report; 0 of other formats; 0 not checked\n'
 recipe 'nccheck -0 -s >report;'
 verdict archive 1
 for processes in one four; do

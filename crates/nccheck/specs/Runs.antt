@@ -12,16 +12,16 @@ use Rattle.devices.specs.Uses.{Use}
 use Rattle.devices.specs.declared.fault.OpenFailed.TheVariants.{NotFound}
 use Rattle.nc_report.specs.Reports.{IsReport}
 use Rattle.nc_findings.specs.declared.listing.Listing.{Listing}
-use Rattle.nc_findings.specs.declared.{finding.Finding.Finding, report.Report.Report, kind.Severity.Severity}
+use Rattle.nc_findings.specs.declared.{finding.Finding.Finding, report.Report.Report}
 use Rattle.cli_base.specs.declared.fault.OptFault.{OptFault}
 use Rattle.cli_base.specs.declared.fault.OptFault.TheVariants as opt
-use Rattle.check_lines.specs.Lines.{gravest, lines}
+use Rattle.check_lines.specs.Lines.{lines}
 use Rattle.nccheck.specs.CommandLine.{Asked, asked_by}
 use Rattle.nccheck.specs.Faults.{file_line, flush_line, opt_fault_line}
 use Rattle.nccheck.specs.Info.{info_in, info_text}
 use Rattle.nccheck.specs.PathLists.{is_path, path_fault, Item, items_in, ListEnd, Path, Unread, Whole, Broken}
-use Rattle.nccheck.specs.Tallies.{Answer, status_of, summary_line, tally_of}
-use Rattle.nccheck.specs.declared.{fault.FileFault.FileFault, info.Info.Info}
+use Rattle.nccheck.specs.Tallies.{Answer, outcome, status_of, summary_line, tally_of}
+use Rattle.nccheck.specs.declared.{fault.FileFault.FileFault, info.Info.Info, tally.Outcome.Outcome}
 use Rattle.nccheck.specs.declared.fault.FileFault.TheVariants.{BadPath, CannotOpen, ReadFailed, OutOfMemory, WriteFailed}
 
 -- ---- the check of one file
@@ -30,12 +30,12 @@ use Rattle.nccheck.specs.declared.fault.FileFault.TheVariants.{BadPath, CannotOp
 abbrev pub shown : Asked → Bytes → Listing → List Finding → Bytes
 shown a file l findings = if a.is_quiet then [] else lines a.filter file l findings
 
--- the file has these bytes; its lines were written, unless it was quiet, and the answer is the gravest severity that was reported
-pub record Checks (a : Asked) (bytes file : Bytes) (old new : SinkView) (reported : Option Severity) : Type 0 where
+-- the file has these bytes; its lines were written, unless it was quiet, and this came of it
+pub record Checks (a : Asked) (bytes file : Bytes) (old new : SinkView) (came : Outcome) : Type 0 where
   pub report : Report
   pub is_report : IsReport bytes report
   pub text : Appended old new (shown a file report.listing report.findings)
-  pub said : reported ≡ gravest a.filter report.findings
+  pub said : came ≡ outcome a.filter report.findings
 
 -- the file has these bytes, and a prefix of its lines was written before standard output failed (a quiet run writes none)
 pub record BreaksOff (a : Asked) (bytes file : Bytes) (old new : SinkView) : Type 0 where
@@ -46,7 +46,7 @@ pub record BreaksOff (a : Asked) (bytes file : Bytes) (old new : SinkView) : Typ
 
 -- what was written of a file with these bytes
 abbrev pub ChecksBytes : Asked → Bytes → Bytes → SinkView → SinkView → Answer → Type 0
-ChecksBytes a bytes file old new (Ok reported) = Checks a bytes file old new reported
+ChecksBytes a bytes file old new (Ok came) = Checks a bytes file old new came
 ChecksBytes a bytes file old new (Err WriteFailed) = BreaksOff a bytes file old new
 ChecksBytes a bytes file old new (Err (BadPath why)) = ⊥
 ChecksBytes a bytes file old new (Err (CannotOpen why)) = ⊥
@@ -111,7 +111,7 @@ IsTold old new text = Appended old new text ⊎ FailedPartway old new text
 
 -- the line of a fault was written to standard error, or a prefix of it
 abbrev pub Tells : Bytes → SinkView → SinkView → Answer → Type 0
-Tells file old new (Ok reported) = new ≡ old
+Tells file old new (Ok came) = new ≡ old
 Tells file old new (Err fault) = IsTold old new (file_line file fault)
 
 -- the path was checked with this answer, and a fault was told

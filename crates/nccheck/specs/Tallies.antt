@@ -1,24 +1,47 @@
 -- Definition. How many files of a run were checked, and what was reported of them: the status, and the last line of `-s`.
-use Rattle.std.specs.Prelude.{ℕ, ◌+◌, nat_lt, if◌then◌else◌, List, [], ◌∷◌, codes, decimal, Option, Some, None, Result, Ok, Err, fold}
+use Rattle.std.specs.Prelude.{ℕ, ◌+◌, Bool, true, false, nat_lt, if◌then◌else◌, List, [], ◌∷◌, codes, decimal, Some, None, Result, Ok, Err, fold}
 use Rattle.nc_types.specs.Bytes.{Bytes, concat_parts}
-use Rattle.nc_findings.specs.declared.kind.Severity.{Severity}
+use Rattle.std.specs.List.{list_any}
+use Rattle.nc_findings.specs.Kinds.{kind_of}
+use Rattle.nc_findings.specs.declared.{finding.Finding.Finding, kind.Kind.Kind}
+use Rattle.nc_findings.specs.declared.kind.Kind.TheVariants.{Hdf5, Gzip}
 use Rattle.nc_findings.specs.declared.kind.Severity.TheVariants.{Error, Violation, Note}
-use Rattle.nccheck.specs.declared.{fault.FileFault.FileFault, tally.SummaryCount.SummaryCount, tally.Tally.Tally}
-use Rattle.nccheck.specs.declared.tally.SummaryCount.TheVariants.{Checked, WithErrors, WithViolations, WithNotes, WithNothing, NotChecked}
+use Rattle.check_lines.specs.Lines.{Filter, gravest}
+use Rattle.nccheck.specs.declared.{fault.FileFault.FileFault, tally.Outcome.Outcome, tally.SummaryCount.SummaryCount, tally.Tally.Tally}
+use Rattle.nccheck.specs.declared.tally.Outcome.TheVariants.{Reported, NothingReported, OtherFormat}
+use Rattle.nccheck.specs.declared.tally.SummaryCount.TheVariants.{Checked, WithErrors, WithViolations, WithNotes, WithNothing, OtherFormats, NotChecked}
 
--- what came of a path: the gravest severity that was reported of its file, if anything was, or a fault
+-- ---- one file
+
+-- a file of another format, which the rules say nothing of
+abbrev pub is_format : Kind → Bool
+is_format Hdf5 = true
+is_format Gzip = true
+is_format kind = false
+
+-- what came of a file with these findings: the gravest severity that was reported, or none, of a classic file or one of another format
+abbrev pub outcome : Filter → List Finding → Outcome
+outcome filter findings = elim gravest filter findings [
+  | Some severity ↦ Reported severity
+  | None ↦ if list_any (λ (f : Finding). is_format (kind_of f.fact)) findings then OtherFormat else NothingReported
+]
+
+-- what came of a path: that of its file, or a fault
 abbrev pub Answer : Type 0
-Answer = Result (Option Severity) FileFault
+Answer = Result Outcome FileFault
+
+-- ---- all files
 
 abbrev pub no_files : Tally
-no_files = record { with_errors = 0; with_violations = 0; with_notes = 0; with_nothing = 0; not_checked = 0 }
+no_files = record { with_errors = 0; with_violations = 0; with_notes = 0; with_nothing = 0; other_formats = 0; not_checked = 0 }
 
 -- the tally with one more file, counted by what came of it
 abbrev pub counted : Tally → Answer → Tally
-counted t (Ok (Some Error)) = record t { with_errors = t.with_errors + 1 }
-counted t (Ok (Some Violation)) = record t { with_violations = t.with_violations + 1 }
-counted t (Ok (Some Note)) = record t { with_notes = t.with_notes + 1 }
-counted t (Ok None) = record t { with_nothing = t.with_nothing + 1 }
+counted t (Ok (Reported Error)) = record t { with_errors = t.with_errors + 1 }
+counted t (Ok (Reported Violation)) = record t { with_violations = t.with_violations + 1 }
+counted t (Ok (Reported Note)) = record t { with_notes = t.with_notes + 1 }
+counted t (Ok NothingReported) = record t { with_nothing = t.with_nothing + 1 }
+counted t (Ok OtherFormat) = record t { other_formats = t.other_formats + 1 }
 counted t (Err fault) = record t { not_checked = t.not_checked + 1 }
 
 abbrev pub tally_of : List Answer → Tally
@@ -29,7 +52,7 @@ abbrev pub checked : Tally → ℕ
 checked t = t.with_errors + t.with_violations + t.with_notes + t.with_nothing
 
 abbrev pub total : Tally → ℕ
-total t = checked t + t.not_checked
+total t = checked t + t.other_formats + t.not_checked
 
 -- the status of a run over these files
 abbrev pub status_of : Tally → ℕ
@@ -45,6 +68,7 @@ count_words WithErrors = codes " with errors, "
 count_words WithViolations = codes " with violations, "
 count_words WithNotes = codes " with notes, "
 count_words WithNothing = codes " with nothing to report; "
+count_words OtherFormats = codes " of other formats; "
 count_words NotChecked = codes " not checked\n"
 
 unfoldable pub count_text : ℕ → SummaryCount → Bytes
@@ -58,4 +82,5 @@ reported_text t = concat_parts (
     count_text t.with_nothing WithNothing ∷ [])
 
 unfoldable pub summary_line : Tally → Bytes
-summary_line t = concat_parts (count_text (checked t) Checked ∷ reported_text t ∷ count_text t.not_checked NotChecked ∷ [])
+summary_line t = concat_parts (
+    count_text (checked t) Checked ∷ reported_text t ∷ count_text t.other_formats OtherFormats ∷ count_text t.not_checked NotChecked ∷ [])

@@ -13,13 +13,13 @@ use crate::fault::FileFault;
 use crate::fault_text::put_file_fault;
 use crate::options::CheckOptions;
 use crate::path_list::path_of;
-use check_lines::{gravest, put_lines};
+use crate::tally::{Outcome, outcome};
+use check_lines::put_lines;
 use devices::{Opener, Sink, Source, WriteFailed};
-use nc_report::{Report, Severity, check};
+use nc_report::{Report, check};
 use std::alloc::Global;
 
-/// Checks the file at the path `file`, and writes the lines of its findings to `out` as the options ask. Returns the gravest severity that
-/// was reported, or `None` if nothing was. Errs as [`check_file`] does, and also with `BadPath` for a path that is empty, isn't UTF-8 or has
+/// Checks the file at the path `file`, and writes the lines of its findings to `out` as the options ask. Returns what came of it. Errs as [`check_file`] does, and also with `BadPath` for a path that is empty, isn't UTF-8 or has
 /// more than 65,535 bytes. Writes the line of an error to `err`, and passes over a failure of `err`.
 #[tactic(auto, using(crate::proofs::InTurn::is_told))]
 pub(crate) fn check_item<P: Opener, O: Sink, E: Sink>(
@@ -29,7 +29,7 @@ pub(crate) fn check_item<P: Opener, O: Sink, E: Sink>(
     options: &CheckOptions<'_>,
     out: &mut O,
     err: &mut E,
-) -> Result<Option<Severity>, FileFault>
+) -> Result<Outcome, FileFault>
     ensures checks { ChecksItem
         (openings P.Source.is_transparent (P.named opener.old) P.view) (asked_for options.now)
         (Path file.now) (state O.view E.view opener.old out.old err.old)
@@ -56,7 +56,7 @@ fn check_and_tell<P: Opener, O: Sink, E: Sink>(
     options: &CheckOptions<'_>,
     out: &mut O,
     err: &mut E,
-) -> Result<Option<Severity>, FileFault>
+) -> Result<Outcome, FileFault>
     ensures checks { ChecksPath
         (openings P.Source.is_transparent (P.named opener.old) P.view) (asked_for options.now)
         file.now (state O.view E.view opener.old out.old err.old)
@@ -72,14 +72,14 @@ fn check_and_tell<P: Opener, O: Sink, E: Sink>(
 
 /// Returns true if a run ends after a check with this answer: if standard output failed. After any other fault, also if an allocation
 /// failed, the run goes on with the next file.
-pub(crate) fn ends_run(answer: Result<Option<Severity>, FileFault>) -> bool
+pub(crate) fn ends_run(answer: Result<Outcome, FileFault>) -> bool
     ensures { result ≡ ends_run answer }
 {
     matches!(answer, Err(FileFault::WriteFailed))
 }
 
-/// Opens the file at the path `file`, checks it, writes the lines of its findings to `out` as the options ask, and closes it. Returns the
-/// gravest severity that was reported, or `None` if nothing was. Errs with `CannotOpen`, `ReadFailed` (the source failed) or `OutOfMemory`,
+/// Opens the file at the path `file`, checks it, writes the lines of its findings to `out` as the options ask, and closes it. Returns what
+/// came of it. Errs with `CannotOpen`, `ReadFailed` (the source failed) or `OutOfMemory`,
 /// before it has written anything, and with `WriteFailed` if `out` fails, after some prefix of the lines.
 fn check_file<P: Opener, O: Sink>(
     opener: &mut P,
@@ -87,7 +87,7 @@ fn check_file<P: Opener, O: Sink>(
     file: &str,
     options: &CheckOptions<'_>,
     out: &mut O,
-) -> Result<Option<Severity>, FileFault>
+) -> Result<Outcome, FileFault>
     ensures opens { OpensFile (P.view opener.old) (P.view opener.new) result }
     ensures writes { WriteFailsOnly (O.view out.old) (O.view out.new) result }
     ensures checks { OnTrue P.Source.is_transparent (ChecksNamed
@@ -105,15 +105,14 @@ fn check_file<P: Opener, O: Sink>(
 const BUFFER_LEN: usize = 4096;
 
 /// Checks the file that `source` reads, through a buffer of 4096 bytes, and writes the lines of its findings, which begin with the path
-/// `file`, to `out` as the options ask. Returns the gravest severity that was reported, or `None` if nothing was. Errs as [`check_file`]
-/// does once it has opened the file.
+/// `file`, to `out` as the options ask. Returns what came of it. Errs as [`check_file`] does once it has opened the file.
 fn check_source<S: Source, O: Sink>(
     source: &mut S,
     alloc: Global,
     file: &str,
     options: &CheckOptions<'_>,
     out: &mut O,
-) -> Result<Option<Severity>, FileFault>
+) -> Result<Outcome, FileFault>
     ensures reads { ReadsOpened (S.view source.old).failures (S.view source.new).failures result }
     ensures writes { WriteFailsOnly (O.view out.old) (O.view out.new) result }
     ensures checks { OnTrue S.is_transparent (ChecksBytes
@@ -123,7 +122,7 @@ fn check_source<S: Source, O: Sink>(
     let mut buf = [0u8; BUFFER_LEN];
     let report = check(alloc, source, &mut buf)?;
     put_unless_quiet(out, file, &report, options)?;
-    Ok(gravest(&report, &options.filter))
+    Ok(outcome(&report, &options.filter))
 }
 
 /// Writes a line for each finding of the report that the options let be reported. Each begins with the path `file`. With `-q` it writes

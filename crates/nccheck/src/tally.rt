@@ -1,12 +1,17 @@
-//! How many files of a run were checked, and what was reported of them.
+//! What came of the files of a run, and how many of each there were.
 
 ghost use Rattle.std.specs.Prelude.{◌≡◌, ◌+◌, ◌<◌, ◌^◌};
+ghost use Rattle.std.specs.List.{list_any};
+ghost use Rattle.nc_findings.specs.Kinds.{kind_of};
+ghost use Rattle.nc_findings.specs.declared.finding.Finding.{Finding};
 ghost use Rattle.devices.specs.code.SinkWrites.{Wrote};
-ghost use Rattle.nccheck.specs.Tallies.{checked, count_text, count_words, counted, no_files, reported_text, status_of, summary_line, total};
+ghost use Rattle.nccheck.specs.Tallies.{checked, count_text, count_words, counted, is_format, no_files, outcome, reported_text, status_of, summary_line, total};
+ghost use Rattle.check_lines.specs.code.Filters.{filter_for};
 
 use crate::fault::FileFault;
+use check_lines::{FilterOptions, gravest};
 use devices::{Sink, WriteFailed, put, put_decimal};
-use nc_report::Severity;
+use nc_report::{Kind, Report, Severity};
 
 /// The status of a run in which nothing was reported of any file.
 pub(crate) const CLEAN: u8 = 0;
@@ -16,6 +21,45 @@ const REPORTED: u8 = 1;
 
 /// The status of a run in which something could not be done.
 pub(crate) const TROUBLE: u8 = 2;
+
+/// What came of a file.
+#[derive(Clone, Copy)]
+pub(crate) enum Outcome {
+    /// Something was reported: the gravest severity.
+    Reported(Severity),
+    /// Nothing was reported.
+    NothingReported,
+    /// Nothing was reported, and the file has another format: HDF5 or gzip.
+    OtherFormat,
+}
+
+/// Returns what came of a file with this report, if what the filter lets is reported.
+pub(crate) fn outcome(report: &Report, filter: &FilterOptions<'_>) -> Outcome
+    ensures { result ≡ outcome (filter_for filter.now) report.now.findings }
+{
+    match gravest(report, filter) {
+        Some(severity) => Outcome::Reported(severity),
+        None if has_other_format(report) => Outcome::OtherFormat,
+        None => Outcome::NothingReported,
+    }
+}
+
+/// Returns true if the file of the report has another format.
+fn has_other_format(report: &Report) -> bool
+    ensures { result ≡ list_any (λ (f : Finding). is_format (kind_of f.fact)) report.now.findings }
+{
+    let findings = report.findings.as_slice();
+    findings
+        .iter()
+        .any(|finding| is_format(finding.fact.kind()))
+}
+
+/// Returns true if findings of this kind are about files of another format.
+fn is_format(kind: Kind) -> bool
+    ensures { result ≡ is_format kind }
+{
+    matches!(kind, Kind::Hdf5 | Kind::Gzip)
+}
 
 /// How many files of a run were checked. Each counts once, for the gravest of what was reported of it.
 #[derive(Clone, Copy)]
@@ -28,6 +72,8 @@ pub(crate) struct Tally {
     pub with_notes: u128,
     /// Those of which nothing was reported.
     pub with_nothing: u128,
+    /// Those of another format, of which nothing was reported.
+    pub other_formats: u128,
     /// Those that could not be checked.
     pub not_checked: u128,
 }
@@ -42,28 +88,31 @@ impl Tally {
             with_violations: 0,
             with_notes: 0,
             with_nothing: 0,
+            other_formats: 0,
             not_checked: 0,
         }
     }
 
-    /// Returns the tally with one more file. `answer` is the gravest severity that was reported of it, or `None` if nothing was, or the
-    /// fault for which it could not be checked. Needs fewer than 2^128 - 1 files in the tally.
-    pub fn with(self, answer: Result<Option<Severity>, FileFault>) -> Tally
+    /// Returns the tally with one more file. `answer` is what came of it, or the fault for which it could not be checked. Needs fewer than
+    /// 2^128 - 1 files in the tally.
+    pub fn with(self, answer: Result<Outcome, FileFault>) -> Tally
         requires { total self + 1 < 2 ^ 128 }
         ensures { result ≡ counted self answer }
     {
         let mut tally = self;
         match answer {
-            Ok(Some(Severity::Error)) => tally.with_errors += 1,
-            Ok(Some(Severity::Violation)) => tally.with_violations += 1,
-            Ok(Some(Severity::Note)) => tally.with_notes += 1,
-            Ok(None) => tally.with_nothing += 1,
+            Ok(Outcome::Reported(Severity::Error)) => tally.with_errors += 1,
+            Ok(Outcome::Reported(Severity::Violation)) => tally.with_violations += 1,
+            Ok(Outcome::Reported(Severity::Note)) => tally.with_notes += 1,
+            Ok(Outcome::NothingReported) => tally.with_nothing += 1,
+            Ok(Outcome::OtherFormat) => tally.other_formats += 1,
             Err(_) => tally.not_checked += 1,
         }
         tally
     }
 
-    /// Returns how many files were checked, whatever was reported of them. Needs fewer than 2^128 files in the tally.
+    /// Returns how many classic files were checked, whatever was reported of them, and files of which it was reported that they are none.
+    /// Needs fewer than 2^128 files in the tally.
     fn checked(self) -> u128
         requires { total self < 2 ^ 128 }
         ensures { result ≡ checked self }
@@ -99,6 +148,8 @@ enum SummaryCount {
     WithNotes,
     /// Those of which nothing was reported.
     WithNothing,
+    /// Files of another format, of which nothing was reported.
+    OtherFormats,
     /// Files that could not be checked.
     NotChecked,
 }
@@ -114,6 +165,7 @@ fn count_words(count: SummaryCount) -> &'static str
         SummaryCount::WithViolations => " with violations, ",
         SummaryCount::WithNotes => " with notes, ",
         SummaryCount::WithNothing => " with nothing to report; ",
+        SummaryCount::OtherFormats => " of other formats; ",
         SummaryCount::NotChecked => " not checked\n",
     }
 }
@@ -127,8 +179,8 @@ fn put_count<W: Sink>(sink: &mut W, n: u128, count: SummaryCount) -> Result<(), 
     put(sink, count_words(count).as_bytes())
 }
 
-/// Writes the line of `-s`, such as `3 checked: 1 with errors, 0 with violations, 0 with notes, 2 with nothing to report; 0 not checked`.
-/// Needs fewer than 2^128 files in the tally. Errs if the sink fails.
+/// Writes the line of `-s`, such as `3 checked: 1 with errors, 0 with violations, 0 with notes, 2 with nothing to report; 7 of other
+/// formats; 0 not checked`. Needs fewer than 2^128 files in the tally. Errs if the sink fails.
 #[tactic(auto, using(devices::proofs::Writes::writes), unfolding(crate::specs::Tallies::summary_line))]
 pub(crate) fn put_summary<W: Sink>(sink: &mut W, tally: Tally) -> Result<(), WriteFailed>
     requires { total tally < 2 ^ 128 }
@@ -136,6 +188,7 @@ pub(crate) fn put_summary<W: Sink>(sink: &mut W, tally: Tally) -> Result<(), Wri
 {
     put_count(sink, tally.checked(), SummaryCount::Checked)?;
     put_reported(sink, tally)?;
+    put_count(sink, tally.other_formats, SummaryCount::OtherFormats)?;
     put_count(sink, tally.not_checked, SummaryCount::NotChecked)
 }
 

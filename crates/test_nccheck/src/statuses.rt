@@ -51,20 +51,28 @@ const RUNS: &str = r#"
 
 2 nccheck -s clean names none records
 >names:84: violation: duplicate-name: var[1] "x" name: found the name of number 0
->3 checked: 0 with errors, 1 with violations, 0 with notes, 2 with nothing to report; 1 not checked
+>3 checked: 0 with errors, 1 with violations, 0 with notes, 2 with nothing to report; 0 of other formats; 1 not checked
 !nccheck: none: cannot open: no such file
 
 1 nccheck -qs -l note records text records
->3 checked: 1 with errors, 0 with violations, 2 with notes, 0 with nothing to report; 0 not checked
+>3 checked: 1 with errors, 0 with violations, 2 with notes, 0 with nothing to report; 0 of other formats; 0 not checked
 
 0 nccheck -sql error names clean
->2 checked: 0 with errors, 0 with violations, 0 with notes, 2 with nothing to report; 0 not checked
+>2 checked: 0 with errors, 0 with violations, 0 with notes, 2 with nothing to report; 0 of other formats; 0 not checked
 
 0 nccheck -i duplicate-name names
 
 1 nccheck -i vsize,duplicate-name,gap -s names clean text
 >text:0: error: not-netcdf: magic: found 0x6e6574, expected 0x434446
->3 checked: 1 with errors, 0 with violations, 0 with notes, 2 with nothing to report; 0 not checked
+>3 checked: 1 with errors, 0 with violations, 0 with notes, 2 with nothing to report; 0 of other formats; 0 not checked
+
+# files of other formats, by their first bytes
+0 nccheck -s -i hdf5,gzip hdf5 clean gzip
+>1 checked: 0 with errors, 0 with violations, 0 with notes, 1 with nothing to report; 2 of other formats; 0 not checked
+
+1 nccheck -s -i gzip hdf5 clean gzip
+>hdf5:0: error: hdf5: magic: found 0x894844460d0a1a0a
+>2 checked: 1 with errors, 0 with violations, 0 with notes, 1 with nothing to report; 1 of other formats; 0 not checked
 
 0 nccheck -V
 >nccheck 0.3.3
@@ -110,7 +118,7 @@ const LISTS: &str = r#"
 2 nccheck names -0s none
 <clean^records^clean
 >names:84: violation: duplicate-name: var[1] "x" name: found the name of number 0
->4 checked: 0 with errors, 1 with violations, 0 with notes, 3 with nothing to report; 1 not checked
+>4 checked: 0 with errors, 1 with violations, 0 with notes, 3 with nothing to report; 0 of other formats; 1 not checked
 !nccheck: none: cannot open: no such file
 
 # paths that can't be opened
@@ -123,7 +131,7 @@ const LISTS: &str = r#"
 # a list that can't be read on
 2 nccheck -0 -q -s
 <names^clean%
->1 checked: 0 with errors, 1 with violations, 0 with notes, 0 with nothing to report; 1 not checked
+>1 checked: 0 with errors, 1 with violations, 0 with notes, 0 with nothing to report; 0 of other formats; 1 not checked
 !nccheck: -: read failed
 
 # a run that has ended
@@ -283,6 +291,8 @@ fn runs_end_with_their_status(rt: HostRuntime) -> Result<(), AllocError> {
     let files = [
         file("clean", CLEAN),
         file("text", b"netcdf t {\n}\n"),
+        file("hdf5", b"\x89HDF\r\n\x1a\n"),
+        file("gzip", b"\x1f\x8b"),
         file("names", names),
         file("names\\", names),
         file("records", TWO_RECORDS),
