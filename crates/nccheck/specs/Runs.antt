@@ -20,7 +20,7 @@ use Rattle.nccheck.specs.CommandLine.{Asked, asked_by}
 use Rattle.nccheck.specs.Faults.{file_line, flush_line, opt_fault_line}
 use Rattle.nccheck.specs.Info.{info_in, info_text}
 use Rattle.nccheck.specs.PathLists.{is_path, path_fault, Item, items_in, ListEnd, Path, Unread, Whole, Broken}
-use Rattle.nccheck.specs.Tallies.{Answer, outcome, status_of, summary_line, tally_of}
+use Rattle.nccheck.specs.Tallies.{Answer, outcome_of, status_of, summary_line, tally_of}
 use Rattle.nccheck.specs.declared.{fault.FileFault.FileFault, info.Info.Info, tally.Outcome.Outcome}
 use Rattle.nccheck.specs.declared.fault.FileFault.TheVariants.{BadPath, CannotOpen, ReadFailed, OutOfMemory, WriteFailed}
 
@@ -35,7 +35,7 @@ pub record Checks (a : Asked) (bytes file : Bytes) (old new : SinkView) (came : 
   pub report : Report
   pub is_report : IsReport bytes report
   pub text : Appended old new (shown a file report.listing report.findings)
-  pub said : came ≡ outcome a.filter report.findings
+  pub said : came ≡ outcome_of a.filter report.findings
 
 -- the file has these bytes, and a prefix of its lines was written before standard output failed (a quiet run writes none)
 pub record BreaksOff (a : Asked) (bytes file : Bytes) (old new : SinkView) : Type 0 where

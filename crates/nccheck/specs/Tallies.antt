@@ -20,8 +20,8 @@ is_format Gzip = true
 is_format kind = false
 
 -- what came of a file with these findings: the gravest severity that was reported, or none, of a classic file or one of another format
-abbrev pub outcome : Filter → List Finding → Outcome
-outcome filter findings = elim gravest filter findings [
+abbrev pub outcome_of : Filter → List Finding → Outcome
+outcome_of filter findings = elim (gravest filter findings) [
   | Some severity ↦ Reported severity
   | None ↦ if list_any (λ (f : Finding). is_format (kind_of f.fact)) findings then OtherFormat else NothingReported
 ]

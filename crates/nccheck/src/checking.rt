@@ -13,7 +13,7 @@ use crate::fault::FileFault;
 use crate::fault_text::put_file_fault;
 use crate::options::CheckOptions;
 use crate::path_list::path_of;
-use crate::tally::{Outcome, outcome};
+use crate::tally::{Outcome, outcome_of};
 use check_lines::put_lines;
 use devices::{Opener, Sink, Source, WriteFailed};
 use nc_report::{Report, check};
@@ -122,7 +122,7 @@ fn check_source<S: Source, O: Sink>(
     let mut buf = [0u8; BUFFER_LEN];
     let report = check(alloc, source, &mut buf)?;
     put_unless_quiet(out, file, &report, options)?;
-    Ok(outcome(&report, &options.filter))
+    Ok(outcome_of(&report, &options.filter))
 }
 
 /// Writes a line for each finding of the report that the options let be reported. Each begins with the path `file`. With `-q` it writes

@@ -5,7 +5,7 @@ ghost use Rattle.std.specs.List.{list_any};
 ghost use Rattle.nc_findings.specs.Kinds.{kind_of};
 ghost use Rattle.nc_findings.specs.declared.finding.Finding.{Finding};
 ghost use Rattle.devices.specs.code.SinkWrites.{Wrote};
-ghost use Rattle.nccheck.specs.Tallies.{checked, count_text, count_words, counted, is_format, no_files, outcome, reported_text, status_of, summary_line, total};
+ghost use Rattle.nccheck.specs.Tallies.{checked, count_text, count_words, counted, is_format, no_files, outcome_of, reported_text, status_of, summary_line, total};
 ghost use Rattle.check_lines.specs.code.Filters.{filter_for};
 
 use crate::fault::FileFault;
@@ -34,8 +34,8 @@ pub(crate) enum Outcome {
 }
 
 /// Returns what came of a file with this report, if what the filter lets is reported.
-pub(crate) fn outcome(report: &Report, filter: &FilterOptions<'_>) -> Outcome
-    ensures { result ≡ outcome (filter_for filter.now) report.now.findings }
+pub(crate) fn outcome_of(report: &Report, filter: &FilterOptions<'_>) -> Outcome
+    ensures { result ≡ outcome_of (filter_for filter.now) report.now.findings }
 {
     match gravest(report, filter) {
         Some(severity) => Outcome::Reported(severity),
