@@ -12,7 +12,12 @@ judged file some le = let short : nat_le (length file) 65535 ≡ true = grind (a
 pub returns-in-Ok-clause-text : goal.returns-in-Ok-clause-text
 returns-in-Ok-clause-text c =
     let file = c.args.file.now in
-    (c.in-Ok.ensures.cases.0, rw (judged file ? c.if-file-gt-LONGEST_PATH.false) (is_utf8-from_IsUtf8 file c.in-Ok.ensures.cases.1))
+    let some : 0 < length file = grind (arith, nat_tests, c.is_empty.ensures, c.if-is_empty.false) in
+    (c.in-Ok.ensures.cases.0, rw (judged file some c.if-file-gt-LONGEST_PATH.false) (is_utf8-from_IsUtf8 file c.in-Ok.ensures.cases.1))
 
 pub returns-in-Err-clause-fault : goal.returns-in-Err-clause-fault
-returns-in-Err-clause-fault c = ?
+returns-in-Err-clause-fault c =
+    let file = c.args.file.now in
+    let some : 0 < length file = grind (arith, nat_tests, c.is_empty.ensures, c.if-is_empty.false) in
+    let none = λ (h : is_utf8 file ≡ true). c.in-Err.ensures.cases.0 (IsUtf8-from_is_utf8 file h) in
+    (grind (arith, nat_tests, some, c.if-file-gt-LONGEST_PATH.false), rw (judged file some c.if-file-gt-LONGEST_PATH.false) (false_from_ne_true _ none))
