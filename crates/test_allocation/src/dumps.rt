@@ -13,7 +13,8 @@ use test_files::{
 };
 
 /// A dump with the name `t`: the file; the name of the variable whose values alone are shown, if it isn't those of all; if only those of
-/// coordinate variables are; and how many bytes of the file may be read through a buffer of 16 bytes: the header, the buffer, and the values.
+/// coordinate variables are; and how many bytes of the file may be read through a buffer of 16 bytes: the header, the buffer and the
+/// values.
 type Dump = (&'static [u8], Option<&'static [u8]>, bool, u128);
 
 /// The dumps.
