@@ -1,5 +1,5 @@
 -- Which findings are faults: of those at fields alone, the ones at entries that the strict rules refuse; of all others, none.
-use Rattle.nccheck_laws.proofs.Prelude.{Contains, list_any-append, All-nil, All-cons, All-append, Contains-append_right, Version, Entry, FieldKind, Listing, FormatFault, Header, layout_of, FileLayout, layout_findings, Fact, Finding, Indexed, indexed_from, indexed, each_before, facts_of, field_at, finding, findings_at, field_findings, floating_findings, is_first, attribute_findings, finding_by_kind, attribute_finding, ahead_of, vsize_findings, whole_findings, is_vsize, named, vsize_finding, located, layout_facts, header_findings, all_findings, is_fault, has_any, padded_slab_len, Ahead, each_after, floating_finding, name_findings, duplicate_name, All-map, ◌≡◌, ℕ, ◌+◌, ◌||◌, ◌⊎◌, Bool, true, false, List, [], ◌∷◌, ◌++◌, flat_map, map, inl, inr, slice_get, Option, None, Result, Ok, Err, refl, sym, ◌∙◌, arith, All, option_to_list, contains-here}
+use Rattle.nccheck_laws.proofs.Prelude.{Slot, Contains, list_any-append, All-nil, All-cons, All-append, Contains-append_right, Version, Entry, FieldKind, Listing, FormatFault, Header, layout_of, FileLayout, layout_findings, Fact, Finding, Indexed, indexed_from, indexed, each_before, facts_of, field_at, finding, findings_at, field_findings, floating_findings, is_first, attribute_findings, finding_by_kind, attribute_finding, ahead_of, vsize_findings, whole_findings, is_vsize, named, vsize_finding, located, layout_facts, header_findings, all_findings, is_fault, has_any, padded_slab_len, Ahead, each_after, floating_finding, name_findings, duplicate_name, All-map, ◌≡◌, ℕ, ◌+◌, ◌||◌, ◌⊎◌, Bool, true, false, List, [], ◌∷◌, ◌++◌, flat_map, map, inl, inr, slice_get, Option, None, Result, Ok, Err, refl, sym, ◌∙◌, arith, All, option_to_list, contains-here}
 use Rattle.nc_findings.specs.declared.finding.Fact.TheVariants as fact
 use Rattle.nccheck_laws.proofs.Refusals.{refusal_of}
 use Rattle.nccheck_laws.proofs.FaultFindings.{facts-fault, fault_among, quiet-type}

@@ -234,20 +234,33 @@ fn input_bytes(alloc: Global, line: &str) -> Result<Vec<u8>, AllocError> {
     Ok(bytes)
 }
 
-/// Returns true if the run of this block ends as the block says.
-fn ends_so(alloc: Global, files: &[MemFile<'_>], block: &str) -> Result<bool, AllocError> {
-    let (mut status, mut words, mut room, mut listed) = (9, "", ROOM, "names^");
+/// The first line of a block that begins with this mark, after it, or otherwise this text.
+fn said_after<'a>(block: &'a str, mark: char, otherwise: &'a str) -> &'a str {
     for line in block.split('\n') {
-        if let Some(line) = line.strip_prefix('<') {
-            listed = line;
-        } else if let Some(line) = line.strip_prefix('=') {
-            room = line.parse().unwrap_or(0);
-        } else if let Some((number, rest)) = line.split_once(' ') {
-            if let Ok(number) = number.parse() {
-                (status, words) = (number, rest);
+        if let Some(said) = line.strip_prefix(mark) {
+            return said;
+        }
+    }
+    otherwise
+}
+
+/// The status and the words of a block: its first line that begins with a number.
+fn status_and_words(block: &str) -> (u8, &str) {
+    for line in block.split('\n') {
+        if let Some((number, words)) = line.split_once(' ') {
+            if let Ok(status) = number.parse() {
+                return (status, words);
             }
         }
     }
+    (9, "")
+}
+
+/// Returns true if the run of this block ends as the block says.
+fn ends_so(alloc: Global, files: &[MemFile<'_>], block: &str) -> Result<bool, AllocError> {
+    let (status, words) = status_and_words(block);
+    let room = said_after(block, '=', "1024").parse().unwrap_or(0);
+    let listed = said_after(block, '<', "names^");
     let (words, bytes) = (parts_of(alloc, words, ' ')?, input_bytes(alloc, listed)?);
     let (lines, trouble) = (marked(alloc, block, '>')?, marked(alloc, block, '!')?);
     let (lines, trouble) = (lines.as_bytes(), trouble.as_bytes());
