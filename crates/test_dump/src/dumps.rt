@@ -119,11 +119,25 @@ fn expect_row(rt: &impl Abort, alloc: Global, row: &str) -> Result<(), AllocErro
         panic!(rt; "{row}");
     };
     let (file, text) = (file_of(alloc, *words)?, char_bytes(alloc, *text)?);
+    let (bytes, text) = (file.as_slice(), text.as_slice());
+    expect_said(rt, alloc, row, bytes, *said, *fault, text)
+}
+
+/// Fails unless these bytes are dumped as these words say, with this fault and this text.
+fn expect_said<'a>(
+    rt: &impl Abort,
+    alloc: Global,
+    about: &'a str,
+    bytes: &'a [u8],
+    said: &'a str,
+    fault: &'a str,
+    text: &'a [u8],
+) -> Result<(), AllocError> {
     let mut dump = DumpRow {
-        about: row,
-        bytes: file.as_slice(),
-        fault: *fault,
-        text: text.as_slice(),
+        about,
+        bytes,
+        fault,
+        text,
         ..WHOLE
     };
     for word in said.split(' ') {
@@ -267,14 +281,29 @@ fn expect_cuts(rt: &impl Abort, alloc: Global, block: &str) -> Result<(), AllocE
         panic!(rt; "{first}");
     };
     let (file, head) = (file_of(alloc, *name)?, char_bytes(alloc, *head)?);
+    let (bytes, head) = (file.as_slice(), head.as_slice());
+    let from = header_len.parse().unwrap_or(0);
+    expect_cut_header(rt, alloc, bytes, from)?;
+    expect_cut_values(rt, alloc, first, bytes, head, from, cuts)
+}
+
+/// Fails unless prefixes of these bytes, from this length on, are dumped as the lines of `cuts` say.
+fn expect_cut_values<'a>(
+    rt: &impl Abort,
+    alloc: Global,
+    about: &'a str,
+    bytes: &'a [u8],
+    head: &'a [u8],
+    header_len: usize,
+    cuts: &str,
+) -> Result<(), AllocError> {
     let row = DumpRow {
-        about: first,
-        bytes: file.as_slice(),
-        head: head.as_slice(),
+        about,
+        bytes,
+        head,
         ..WHOLE
     };
-    let mut from = header_len.parse().unwrap_or(0);
-    expect_cut_header(rt, alloc, row.bytes, from)?;
+    let mut from = header_len;
     for line in cuts.split('\n') {
         from = expect_cut(rt, alloc, row, from, line)?;
     }
