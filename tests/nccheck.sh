@@ -40,7 +40,7 @@ verdict link_to_itself_and_a_pipe 2
 stdout "cut.nc:500: error: $missing
 cut.nc:500: error: $missing
 3 checked: 2 with errors, 0 with violations, 0 with notes, 1 with nothing to report; 0 of other formats; 3 not checked\n"
-stderr 'nccheck: none.nc: cannot open: no such file\nnccheck: caf\\351.nc: cannot open\nnccheck: : cannot open: no such file\n'
+stderr 'nccheck: none.nc: cannot open: no such file\nnccheck: caf\\351.nc: cannot open: the path is not UTF-8\nnccheck: : cannot open: the path is empty\n'
 run bash -c 'printf "caf\351.nc\0\0stations.nc\0cut.nc" | "$0" -0 -s cut.nc none.nc' "$nccheck"
 verdict list_after_the_words 2
 run bash -c '"$0" -0 </dev/null' "$nccheck"
