@@ -16,13 +16,14 @@ verdict same_bytes_each_time 0
 # A build in another folder gives the same programs, but for the section with the version, which make adds. (The older kit keeps nothing, so
 # there it would take as long as the first.)
 if rt version | grep -q 13f; then
-    tar -C "$top" -c --exclude=out build.sh kit.sh HANDLES crates.txt crates | tar -x -C "$work/dir"
-    run "$work/dir/build.sh"
+    mkdir "$work/elsewhere"
+    tar -C "$top" -c --exclude=out build.sh kit.sh HANDLES crates.txt crates | tar -x -C "$work/elsewhere"
+    run "$work/elsewhere/build.sh"
     : >"$work/got/stderr"
     verdict builds_elsewhere 0
     for name in ncdump ncgen nccheck; do
         objcopy --remove-section .version "$top/bin/$name" "$work/first"
-        objcopy --remove-section .version "$work/dir/bin/$name" "$work/second"
+        objcopy --remove-section .version "$work/elsewhere/bin/$name" "$work/second"
         run cmp "$work/first" "$work/second"
         verdict "same_${name}_elsewhere" 0
     done
