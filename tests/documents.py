@@ -172,7 +172,7 @@ def believed():
     for path, source in specs():
         kind = KIND.match(source)
         if kind and kind[1] != "For contracts":
-            row = f"| {path.split('/')[1]} | [{Path(path).stem}](../{path}) | {len(source.splitlines())} | .. |"
+            row = f"| {path.split('/')[1]} | [{Path(path).stem}](../{path}) | .. |"
             yield f"{path}: {kind[1]}", "" if listed.pop(path, None) == kind[1] else f"ISN'T LISTED AS {kind[1]} IN docs/PROVED.md:\n{row}"
     for path, kind in listed.items():
         yield f"docs/PROVED.md: {path}", f"IS NO {kind}"
