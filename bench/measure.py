@@ -43,10 +43,9 @@ def peak(words):
 def keep(program, name, theirs, ours):
     """Puts two times into the table that docs/times.svg is drawn from, if it has a row for them from an earlier run."""
     table = TOP / "pictures" / "times.tsv"
-    rows = dict(it.rsplit("\t", 2)[0:1] + [it] for it in table.read_text().splitlines())
-    if f"{program}\t{name}" in rows:
-        rows[f"{program}\t{name}"] = f"{program}\t{name}\t{theirs:.1f}\t{ours:.1f}"
-        table.write_text("".join(f"{it}\n" for it in rows.values()))
+    rows = table.read_text().splitlines()
+    kept = [f"{program}\t{name}\t{theirs:.1f}\t{ours:.1f}" if it.split("\t")[:2] == [program, name] else it for it in rows]
+    table.write_text("".join(f"{it}\n" for it in kept))
 
 
 def heaviest(*words):

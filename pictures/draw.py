@@ -18,6 +18,7 @@ TOP = Path(__file__).resolve().parent.parent
 PICTURES = TOP / "pictures"
 sys.path.append(str(TOP / "tests"))
 
+from crates import chains_of  # noqa: E402
 from prover import below, stands_on  # noqa: E402
 
 INK, PALE, LINE, OURS, THEIRS, MARK = "#1f2933", "#f4f6f8", "#9aa5b1", "#2f6f4e", "#b8c2cc", "#d9efe2"
@@ -122,15 +123,6 @@ def nearest(crate, under):
     return [it for it in under[crate] if not any(it in below([other]) for other in under[crate] if other != it)]
 
 
-def longest_chain(took, under):
-    """The crates of the chain that takes longest, from the first on."""
-    chains = {}
-    for crate in sorted(under, key=lambda it: len(below([it]))):
-        before = max((chains[it] for it in under[crate]), key=lambda it: it[0], default=(0, []))
-        chains[crate] = before[0] + took[crate], [*before[1], crate]
-    return max(chains.values())[1]
-
-
 def columns(edges):
     """The crates column by column: each stands right of those that it stands on, as near to their height as there is room."""
     level, height, found = {}, {}, []
@@ -148,7 +140,8 @@ def crates():
     """The crates of the programs, each with the minutes it took, and the chain that took longest."""
     took = minutes()
     under = {crate: [it for it in stands_on()[crate] if it in took] for crate in took}
-    edges, chain = {crate: nearest(crate, under) for crate in took}, longest_chain(took, under)
+    edges = {crate: nearest(crate, under) for crate in took}
+    longest, chain = max(chains_of(took).values())
     place, parts, boxes, tall = {}, [], [], 300
     for at, column in enumerate(columns(edges)):
         for row, crate in enumerate(column):
@@ -166,7 +159,7 @@ def crates():
             middle = (left + right) / 2 if right - left < 40 else right - 14
             parts.append(arrow(f"M{left} {from_y:.0f}C{middle:.0f} {from_y:.0f} {middle:.0f} {y:.0f} {right} {y:.0f}", *((OURS, 2.5) if marked else (LINE, 1))))
     width = max(x for x, _ in place.values()) + 116
-    caption = text(12, tall + 44, f"An arrow leads from a crate to one that stands on it. Marked: the chain that the first build waits for, {sum(took[it] for it in chain):.1f} min.", size=12)
+    caption = text(12, tall + 44, f"An arrow leads from a crate to one that stands on it. Marked: the chain that the first build waits for, {longest:.1f} min.", size=12)
     return svg(width, tall + 56, "The crates of the programs, and the chain that takes longest to prove", [*parts, *boxes, caption])
 
 

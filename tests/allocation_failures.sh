@@ -140,25 +140,31 @@ check_of_a_list() {
 }
 
 # spares NAME LINE FILE..: bin/nccheck finds this in each of the files. Where one of its allocations is refused, it is out of memory for one
-# of them, and finds it in the others, or it is out of memory for its words; but for two, without which it does all.
+# of them, each in its turn, and finds it in the others, or it is out of memory for its words; but for two, without which it does all.
 spares() {
-    local n again=0 want file line=$2
+    local n file lines want told= again=0
     for ((n = 1; ; n++)); do
         refuse "$n" "$nccheck" "${@:3}"
-        want=
+        if [ "$allocations" -lt "$n" ]; then break; fi
+        told+=$err
+        lines=
         for file in "${@:3}"; do
-            if [ "$err" != "nccheck: $file: out of memory"$'\n' ]; then want+=$file$line; fi
+            if [ "$err" != "nccheck: $file: out of memory"$'\n' ]; then lines+=$file$2; fi
         done
-        if [ "$err" = $'nccheck: out of memory\n' ]; then want=; fi
-        if [ -z "$err" ]; then again=$((again + 1)); fi
-        if [ "$out" != "$want" ] || [ "$again" -gt 2 ] && [ "$n" -le "$allocations" ]; then
+        want="status 2:$lines"
+        if [ "$err" = $'nccheck: out of memory\n' ]; then want='status 2:'; fi
+        if [ -z "$err" ]; then
+            again=$((again + 1))
+            want="status 1:$lines"
+        fi
+        if [ "$status:$out" != "$want" ] || [ "$again" -gt 2 ]; then
             fails "$1"
             return
         fi
-        if [ "$allocations" -lt "$n" ]; then break; fi
     done
-    echo "$out$err" >"$work/want/stdout"
-    cp "$work/want/stdout" "$work/got/stdout"
+    # what was told in all these runs: each file, and the words
+    uniq <<<"${told%$'\n'}" >"$work/got/stdout"
+    { echo 'nccheck: out of memory' && printf 'nccheck: %s: out of memory\n' "${@:3}"; } >"$work/want/stdout"
     verdict "$1" 1
 }
 

@@ -43,20 +43,26 @@ def lacking(crate):
     return sorted(named & libraries - modules - ALWAYS - {crate, *stands_on()[crate]})
 
 
+def chains_of(minutes):
+    """Of each crate, the chain to it that takes longest: its minutes, and its crates from the first on."""
+    chains = {}
+    for crate in sorted(minutes, key=lambda it: len(below([it]))):
+        before, crates = max((chains[it] for it in stands_on()[crate] if it in minutes), default=(0, []))
+        chains[crate] = before + minutes[crate], [*crates, crate]
+    return chains
+
+
 def print_times(log, keeps):
     """Prints each crate's minutes, the longest chain and the sum; and writes the minutes into the table of the picture if `keeps` is true."""
     said = re.findall(r"^times: (\w+) ([1-9]\d*) (\d+)$", log.read_text(), re.M)
     if not said:
         return f"{log} has no times: the build failed, or this file system doesn't say when a folder was made"
     minutes = {crate: max(0, int(end) - int(start)) / 60 for crate, start, end in said}
-    chains = {}
-    for crate in sorted(minutes, key=lambda it: len(below([it]))):
-        under = max((chains[it] for it in stands_on()[crate] if it in minutes), key=lambda it: it[0], default=(0, []))
-        chains[crate] = under[0] + minutes[crate], [*under[1], crate]
+    chains = chains_of(minutes)
     for crate, (chain, _) in sorted(chains.items(), key=lambda it: it[1][0]):
         print(f"{crate:16}{minutes[crate]:6.1f}  its chain{chain:6.1f}")
-    longest = max(chains.values(), key=lambda it: it[0])
-    print(f"longest chain: {longest[0]:.1f} min: {' '.join(longest[1])}")
+    longest, crates = max(chains.values())
+    print(f"longest chain: {longest:.1f} min: {' '.join(crates)}")
     print(f"sum: {sum(minutes.values()):.1f} min")
     if keeps:
         (TOP / "pictures" / "minutes.tsv").write_text("".join(f"{crate}\t{took:.1f}\n" for crate, took in minutes.items()))

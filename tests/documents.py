@@ -244,7 +244,8 @@ def versions():
 def pictures():
     """The pictures, and each row of times of SPEED.md."""
     yield "pictures", said_by([TOP / "pictures" / "draw.py", "--check"], TOP).rstrip()
-    measured = {tuple(it.split("\t"))[::2] + (it.split("\t")[3],) for it in (TOP / "pictures" / "times.tsv").read_text().splitlines()}
+    rows = (TOP / "pictures" / "times.tsv").read_text().splitlines()
+    measured = {(program, theirs, ours) for program, _, theirs, ours in (it.split("\t") for it in rows)}
     for row in TIMES.findall((TOP / "docs" / "SPEED.md").read_text()):
         yield f"docs/SPEED.md: {' '.join(row)}", "" if row in measured else "IS NO ROW OF pictures/times.tsv"
 

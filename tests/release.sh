@@ -108,7 +108,7 @@ completed() {
 # completions. A shell that isn't installed is skipped.
 other_shells_complete() {
     if type -P zsh >/dev/null; then
-        run zsh -f "$top/tests/completed.zsh" "$work/usr/share/zsh/site-functions" "$2 $3"
+        run timeout 60 zsh -f "$top/tests/completed.zsh" "$work/usr/share/zsh/site-functions" "$2 $3"
         sed -i 's/[ ,]*$//; s/.* //' "$work/got/stdout"
         stdout "$4\n"
         verdict "$1_in_zsh" 0

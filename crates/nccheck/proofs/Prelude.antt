@@ -11,7 +11,7 @@ pub use Rattle.nc_types.specs.Bytes.{Bytes}
 pub use Rattle.nccheck.specs.CommandLine.{Asked, asked_in}
 unfoldable pub use Rattle.nccheck.specs.CommandLine.{asked_by, nccheck}
 pub use Rattle.nccheck.specs.PathLists.{Broken, Item, ListEnd, Path, Unread, Whole, items_after, items_in, last_items}
-unfoldable pub use Rattle.nccheck.specs.PathLists.{is_path}
+unfoldable pub use Rattle.nccheck.specs.PathLists.{path_fault}
 pub use Rattle.nccheck.specs.Runs.{ChecksItem, Fails, IsTold, Openings, OpensFile, ReadsList, RunsFiles, RunsOver, State, Writes, ends_run, has_ended, openings, state}
 pub use Rattle.nccheck.specs.Tallies.{Answer, counted, no_files, status_of, summary_line, total}
 pub use Rattle.nccheck.specs.code.Counts.{Counts, CountsAll, CountsList, Gives, IsCount, Takes, TakesItems}

@@ -1,18 +1,18 @@
 -- Definition. Lists of paths, each ended by a NUL, the last one with or without.
-use Rattle.std.specs.Prelude.{ℕ, ◌==◌, ◌&&◌, Bool, nat_lt, nat_le, if◌then◌else◌, List, [], ◌∷◌, ◌++◌, length}
+use Rattle.std.specs.Prelude.{ℕ, ◌==◌, nat_lt, nat_le, if◌then◌else◌, List, [], ◌∷◌, ◌++◌, length, Option, Some, None}
 use Rattle.std.specs.Str.{is_utf8}
 use Rattle.nc_types.specs.Bytes.{Bytes}
 use Rattle.check_lines.specs.Shown.{longest_path}
 use Rattle.nccheck.specs.declared.fault.PathFault.{PathFault}
 use Rattle.nccheck.specs.declared.fault.PathFault.TheVariants.{Empty, TooLong, NotUtf8}
 
--- the path can be opened: it isn't empty, not too long, and UTF-8
-unfoldable pub is_path : Bytes → Bool
-is_path file = nat_lt 0 (length file) && nat_le (length file) longest_path && is_utf8 file
-
--- why any other path can't
-abbrev pub path_fault : Bytes → PathFault
-path_fault file = if length file == 0 then Empty else if nat_le (length file) longest_path then NotUtf8 else TooLong
+-- why the path can't be opened, whatever files there are
+unfoldable pub path_fault : Bytes → Option PathFault
+path_fault file =
+    if length file == 0 then Some Empty
+    else if nat_lt longest_path (length file) then Some TooLong
+    else if is_utf8 file then None
+    else Some NotUtf8
 
 -- the path with one more byte; a path that is too long gets no more
 unfoldable pub with_byte : Bytes → ℕ → Bytes

@@ -19,7 +19,7 @@ use Rattle.check_lines.specs.Lines.{lines}
 use Rattle.nccheck.specs.CommandLine.{Asked, asked_by}
 use Rattle.nccheck.specs.Faults.{file_line, flush_line, opt_fault_line}
 use Rattle.nccheck.specs.Info.{info_in, info_text}
-use Rattle.nccheck.specs.PathLists.{is_path, path_fault, Item, items_in, ListEnd, Path, Unread, Whole, Broken}
+use Rattle.nccheck.specs.PathLists.{path_fault, Item, items_in, ListEnd, Path, Unread, Whole, Broken}
 use Rattle.nccheck.specs.Tallies.{Answer, outcome_of, status_of, summary_line, tally_of}
 use Rattle.nccheck.specs.declared.{fault.FileFault.FileFault, info.Info.Info, tally.Outcome.Outcome}
 use Rattle.nccheck.specs.declared.fault.FileFault.TheVariants.{BadPath, CannotOpen, ReadFailed, OutOfMemory, WriteFailed}
@@ -131,7 +131,8 @@ pub record Fails {P : Type 0} (file : Bytes) (fault : FileFault) (old new : Stat
 
 -- what came of a path, or of a list that can't be read on
 abbrev pub ChecksItem : {P : Type 0} → Openings P → Asked → Item → State P → State P → Answer → Type 0
-ChecksItem o a (Path file) old new answer = MatchBool (is_path file) (ChecksPath o a file old new answer) (Fails file (BadPath (path_fault file)) old new answer)
+ChecksItem o a (Path file) old new answer =
+    MatchOption (path_fault file) (ChecksPath o a file old new answer) (λ why. Fails file (BadPath why) old new answer)
 ChecksItem o a Unread old new answer = Fails (codes "-") ReadFailed old new answer
 
 -- ---- the items of a run, in turn

@@ -13,17 +13,21 @@ use Rattle.nccheck.specs.declared.tally.SummaryCount.TheVariants.{Checked, WithE
 
 -- ---- one file
 
--- a file of another format, which the rules say nothing of
-abbrev pub is_format : Kind → Bool
-is_format Hdf5 = true
-is_format Gzip = true
-is_format kind = false
+-- findings of this kind are about a file of another format, which the rules say nothing of
+abbrev pub is_other_format : Kind → Bool
+is_other_format Hdf5 = true
+is_other_format Gzip = true
+is_other_format kind = false
+
+-- the file of these findings has another format
+abbrev pub has_other_format : List Finding → Bool
+has_other_format findings = list_any (λ (f : Finding). is_other_format (kind_of f.fact)) findings
 
 -- what came of a file with these findings: the gravest severity that was reported, or none, of a classic file or one of another format
 abbrev pub outcome_of : Filter → List Finding → Outcome
 outcome_of filter findings = elim (gravest filter findings) [
   | Some severity ↦ Reported severity
-  | None ↦ if list_any (λ (f : Finding). is_format (kind_of f.fact)) findings then OtherFormat else NothingReported
+  | None ↦ if has_other_format findings then OtherFormat else NothingReported
 ]
 
 -- what came of a path: that of its file, or a fault
@@ -47,10 +51,11 @@ counted t (Err fault) = record t { not_checked = t.not_checked + 1 }
 abbrev pub tally_of : List Answer → Tally
 tally_of answers = fold counted no_files answers
 
--- how many files were checked, and how many there were
+-- how many files were checked: those of other formats, of which nothing was reported, aren't among them
 abbrev pub checked : Tally → ℕ
 checked t = t.with_errors + t.with_violations + t.with_notes + t.with_nothing
 
+-- how many there were
 abbrev pub total : Tally → ℕ
 total t = checked t + t.other_formats + t.not_checked
 

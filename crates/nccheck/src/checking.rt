@@ -19,8 +19,9 @@ use devices::{Opener, Sink, Source, WriteFailed};
 use nc_report::{Report, check};
 use std::alloc::Global;
 
-/// Checks the file at the path `file`, and writes the lines of its findings to `out` as the options ask. Returns what came of it. Errs as [`check_file`] does, and also with `BadPath` for a path that is empty, isn't UTF-8 or has
-/// more than 65,535 bytes. Writes the line of an error to `err`, and passes over a failure of `err`.
+/// Checks the file at the path `file`, and writes the lines of its findings to `out` as the options ask. Returns what came of it. Errs as
+/// [`check_file`] does, and also with `BadPath` for a path that is empty, isn't UTF-8 or has more than 65,535 bytes. Writes the line of an
+/// error to `err`, and passes over a failure of `err`.
 #[tactic(auto, using(crate::proofs::InTurn::is_told))]
 pub(crate) fn check_item<P: Opener, O: Sink, E: Sink>(
     opener: &mut P,
@@ -75,12 +76,15 @@ fn check_and_tell<P: Opener, O: Sink, E: Sink>(
 pub(crate) fn ends_run(answer: Result<Outcome, FileFault>) -> bool
     ensures { result ≡ ends_run answer }
 {
-    matches!(answer, Err(FileFault::WriteFailed))
+    match answer {
+        Err(FileFault::WriteFailed) => true,
+        Err(_) | Ok(_) => false,
+    }
 }
 
 /// Opens the file at the path `file`, checks it, writes the lines of its findings to `out` as the options ask, and closes it. Returns what
-/// came of it. Errs with `CannotOpen`, `ReadFailed` (the source failed) or `OutOfMemory`,
-/// before it has written anything, and with `WriteFailed` if `out` fails, after some prefix of the lines.
+/// came of it. Errs with `CannotOpen`, `ReadFailed` (the source failed) or `OutOfMemory`, before it has written anything, and with
+/// `WriteFailed` if `out` fails, after some prefix of the lines.
 fn check_file<P: Opener, O: Sink>(
     opener: &mut P,
     alloc: Global,

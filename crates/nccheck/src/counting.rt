@@ -113,8 +113,8 @@ struct PathList {
 const BUFFER_LEN: usize = 4096;
 
 /// Checks the files whose paths `input` has, each ended by a NUL (the last one with or without), as soon as the path was read. Returns
-/// `tally` with them, or `None` after a fault that ends the run (`out` failed). If `input` fails, or after 2^64 - 1 reads,
-/// it goes no further: it writes a line to `err`, and counts one more file as not checked. Needs fewer than 2^64 files in `tally`.
+/// `tally` with them, or `None` after a fault that ends the run (`out` failed). If `input` fails, or after 2^64 - 1 reads, it goes no
+/// further: it writes a line to `err`, and counts one more file as not checked. Needs fewer than 2^64 files in `tally`.
 fn check_list<P: Opener, R: Read, O: Sink, E: Sink>(
     opener: &mut P,
     alloc: Global,
@@ -148,8 +148,8 @@ fn check_list<P: Opener, R: Read, O: Sink, E: Sink>(
 }
 
 /// Takes `bytes`, the next of the paths on standard input: appends them to the path that `list` has begun, and at each NUL checks the file
-/// at that path, counts it in `list`, and begins the next path. Returns `None` after a fault that ends the run (`out`
-/// failed). Needs a tally that stays below 2^128 files even if each byte ends a path.
+/// at that path, counts it in `list`, and begins the next path. Returns `None` after a fault that ends the run (`out` failed). Needs a
+/// tally that stays below 2^128 files even if each byte ends a path.
 fn check_paths_in<P: Opener, O: Sink, E: Sink>(
     opener: &mut P,
     alloc: Global,
@@ -182,8 +182,7 @@ fn check_paths_in<P: Opener, O: Sink, E: Sink>(
 }
 
 /// Checks the file at the path that `list` has begun, if there is one: standard input ended without a NUL after it. Returns the tally of
-/// `list` with it, or `None` after a fault that ends the run (`out` failed). Needs fewer than 2^128 - 1 files in the
-/// tally.
+/// `list` with it, or `None` after a fault that ends the run (`out` failed). Needs fewer than 2^128 - 1 files in the tally.
 fn check_last<P: Opener, O: Sink, E: Sink>(
     opener: &mut P,
     alloc: Global,

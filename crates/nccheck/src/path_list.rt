@@ -1,7 +1,7 @@
 //! The paths of a list.
 
-ghost use Rattle.std.specs.Prelude.{◌≡◌, false, true, IfErr, IfOk};
-ghost use Rattle.nccheck.specs.PathLists.{is_path, path_fault, with_byte};
+ghost use Rattle.std.specs.Prelude.{◌≡◌, None, Some, IfErr, IfOk};
+ghost use Rattle.nccheck.specs.PathLists.{path_fault, with_byte};
 
 use crate::fault::PathFault;
 use arrayvec::ArrayVec;
@@ -22,10 +22,10 @@ pub(crate) fn push_byte(path: &mut ListedPath, b: u8)
 }
 
 /// Returns the path as text. Errs if it can't be opened since it is empty, has more than [`LONGEST_PATH`] bytes, or isn't UTF-8.
-#[tactic(auto, unfolding(crate::specs::PathLists::is_path))]
+#[tactic(auto, unfolding(crate::specs::PathLists::path_fault))]
 pub(crate) fn path_of(file: &[u8]) -> Result<&str, PathFault>
-    ensures text { IfOk result (λ path. (path.now ≡ file.now) × (is_path file.now ≡ true)) }
-    ensures fault { IfErr result (λ why. (why ≡ path_fault file.now) × (is_path file.now ≡ false)) }
+    ensures text { IfOk result (λ path. (path.now ≡ file.now) × (path_fault file.now ≡ None)) }
+    ensures fault { IfErr result (λ why. path_fault file.now ≡ Some why) }
 {
     if file.is_empty() {
         return Err(PathFault::Empty);

@@ -125,9 +125,8 @@ fn check_for_words<P: Opener, R: Read, O: Sink, E: Sink>(
 }
 
 /// Checks the files of the options, with those whose paths `input` has if the options ask for that (`-0`), and returns the exit status:
-/// that of [`Tally::status`](crate::tally::Tally::status), or 2 if `out` failed, which ends the run. If the options ask
-/// for it (`-s`), and the run wasn't ended so, writes a line that counts the files to `out`; if that fails, writes a line to `err`, and
-/// returns 2.
+/// that of [`Tally::status`](crate::tally::Tally::status), or 2 if `out` failed, which ends the run. If the options ask for it (`-s`), and the
+/// run wasn't ended so, writes a line that counts the files to `out`; if that fails, writes a line to `err`, and returns 2.
 fn check_files<P: Opener, R: Read, O: Sink, E: Sink>(
     opener: &mut P,
     alloc: Global,

@@ -1,11 +1,8 @@
 //! What came of the files of a run, and how many of each there were.
 
 ghost use Rattle.std.specs.Prelude.{◌≡◌, ◌+◌, ◌<◌, ◌^◌};
-ghost use Rattle.std.specs.List.{list_any};
-ghost use Rattle.nc_findings.specs.Kinds.{kind_of};
-ghost use Rattle.nc_findings.specs.declared.finding.Finding.{Finding};
 ghost use Rattle.devices.specs.code.SinkWrites.{Wrote};
-ghost use Rattle.nccheck.specs.Tallies.{checked, count_text, count_words, counted, is_format, no_files, outcome_of, reported_text, status_of, summary_line, total};
+ghost use Rattle.nccheck.specs.Tallies.{checked, count_text, count_words, counted, has_other_format, is_other_format, no_files, outcome_of, reported_text, status_of, summary_line, total};
 ghost use Rattle.check_lines.specs.code.Filters.{filter_for};
 
 use crate::fault::FileFault;
@@ -46,17 +43,17 @@ pub(crate) fn outcome_of(report: &Report, filter: &FilterOptions<'_>) -> Outcome
 
 /// Returns true if the file of the report has another format.
 fn has_other_format(report: &Report) -> bool
-    ensures { result ≡ list_any (λ (f : Finding). is_format (kind_of f.fact)) report.now.findings }
+    ensures { result ≡ has_other_format report.now.findings }
 {
     let findings = report.findings.as_slice();
     findings
         .iter()
-        .any(|finding| is_format(finding.fact.kind()))
+        .any(|finding| is_other_format(finding.fact.kind()))
 }
 
 /// Returns true if findings of this kind are about files of another format.
-fn is_format(kind: Kind) -> bool
-    ensures { result ≡ is_format kind }
+fn is_other_format(kind: Kind) -> bool
+    ensures { result ≡ is_other_format kind }
 {
     matches!(kind, Kind::Hdf5 | Kind::Gzip)
 }

@@ -259,7 +259,7 @@ fn status_and_words(block: &str) -> (u8, &str) {
 /// Returns true if the run of this block ends as the block says.
 fn ends_so(alloc: Global, files: &[MemFile<'_>], block: &str) -> Result<bool, AllocError> {
     let (status, words) = status_and_words(block);
-    let room = said_after(block, '=', "1024").parse().unwrap_or(0);
+    let room = said_after(block, '=', "").parse().unwrap_or(ROOM);
     let listed = said_after(block, '<', "names^");
     let (words, bytes) = (parts_of(alloc, words, ' ')?, input_bytes(alloc, listed)?);
     let (lines, trouble) = (marked(alloc, block, '>')?, marked(alloc, block, '!')?);
