@@ -1,6 +1,6 @@
 -- Definition. Names that two elements of a list have: two dimensions, two variables, two global attributes, or two attributes of one
 -- variable. (By the NetCDF Classic Format Specification the names of a list differ.)
-use Rattle.std.specs.Prelude.{ℕ, ◌==◌, ◌&&◌, Bool, true, false, if◌then◌else◌, List, [], find, Option, Some, None}
+use Rattle.std.specs.Prelude.{ℕ, ◌==◌, ◌&&◌, Bool, true, false, List, [], find, Option, Some, None}
 use Rattle.std.specs.Option.{option_and_then, option_map, option_map_or}
 use Rattle.std.specs.Str.{bytes_eq}
 use Rattle.nc_types.specs.Bytes.{Bytes}
