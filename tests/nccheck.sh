@@ -3,6 +3,10 @@
 set -u
 . "$(dirname "$0")/verdicts.sh"
 missing='missing: var[2] "temperature" record 2: found 500 bytes, expected at least 504'
+usage='usage: nccheck [-q] [-s] [-j] [-0] [-l level] [-i kinds] [file ...]
+       nccheck -p [-0] [-l level] [-i kinds] [file ...]
+       nccheck -k [-0] [file ...]
+'
 
 cp "$samples/stations.nc" "$samples/records.nc" .
 head -c 500 stations.nc >cut.nc
@@ -48,6 +52,22 @@ verdict empty_list 0
 stderr 'nccheck: -: read failed\n'
 run bash -c '"$0" -0 <.' "$nccheck"
 verdict list_that_cannot_be_read 2
+
+# Objects, paths and formats
+stdout '{"file":"cut.nc","offset":500,"severity":"error","kind":"missing","path":"var[2] \\"temperature\\" record 2","found":"500 bytes","expected":"at least 504"}
+{"checked":2,"errors":1,"violations":0,"notes":0,"nothing_to_report":1,"other_formats":0,"not_checked":1}
+'
+stderr 'nccheck: none.nc: cannot open: no such file\n'
+run "$nccheck" -js cut.nc none.nc stations.nc
+verdict objects_and_their_summary 2
+run bash -c '"$0" -p cut.nc stations.nc cut.nc | tr "\0" :' "$nccheck"
+stdout 'cut.nc:cut.nc:'
+verdict paths_of_files_with_findings 0
+cp "$samples/counters.nc" .
+stdout 'nc3\nnc5\nnc3\n'
+stderr 'nccheck: loop: cannot open\nnccheck: /dev/null: cannot open: not a regular file\n'
+run "$nccheck" -k cut.nc counters.nc loop /dev/null stations.nc
+verdict formats 2
 
 # Lines are lines, and short, whatever stands in paths and names
 letters() { head -c "$1" /dev/zero | tr '\0' "$2"; }
@@ -110,8 +130,8 @@ name name_of_257_bytes_that_is_not_utf_8 "$other" "\"${octal::256}\"..." "$long"
 stdout "nccheck $(cat "$top/VERSION")\n"
 run "$nccheck" -q none.nc -V -h
 verdict version_is_that_of_the_file_VERSION 0
-run bash -c '"$0" -h | head -n 1' "$nccheck"
-stdout 'usage: nccheck [-q] [-s] [-0] [-l level] [-i kinds] [file ...]\n'
+run bash -c '"$0" -h | head -n 3' "$nccheck"
+stdout "$usage"
 verdict help_begins_with_the_usage 0
 stderr 'nccheck: -q: cannot open: no such file\n'
 run "$nccheck" -- -q
@@ -122,17 +142,28 @@ run "$nccheck" -
 verdict dash_alone 2
 run "$nccheck" -i missing,gap cut.nc
 verdict ignored_kinds 0
-for words in '' '-x cut.nc' '-i wrong cut.nc' '-0 -0' '-l bad cut.nc' '-l' '-l note -l error cut.nc'; do
-    stderr 'usage: nccheck [-q] [-s] [-0] [-l level] [-i kinds] [file ...]\n'
+while IFS='|' read -r words why; do
+    stderr "nccheck: $why\n$usage"
     # shellcheck disable=SC2086
     run "$nccheck" $words
-    verdict "usage_of${words:+_}${words// /_}" 2
-done
-stderr 'usage: nccheck [-q] [-s] [-0] [-l level] [-i kinds] [file ...]\n'
+    verdict "misuse${words:+_}${words// /_}" 2
+done <<'END'
+|no file
+-x cut.nc|no option -x
+--list cut.nc|no option --list
+-i wrong cut.nc|no kind wrong
+-0 -0|-0 is given twice
+-l bad cut.nc|no level bad
+-l|an option has no value
+-l note -l error cut.nc|-l is given twice
+-p -s cut.nc|-p takes no -q, -s or -j beside it
+-k -l note cut.nc|-k takes no option but -0 beside it
+END
+stderr "nccheck: an argument is not UTF-8: give paths by -0\n$usage"
 run "$nccheck" cut.nc $'caf\351.nc'
 verdict word_that_is_not_utf_8 2
 for word in -V -h; do
-    stderr 'usage: nccheck [-q] [-s] [-0] [-l level] [-i kinds] [file ...]\n'
+    stderr "nccheck: an argument is not UTF-8: give paths by -0\n$usage"
     run "$nccheck" "$word" $'caf\351.nc'
     verdict "word_that_is_not_utf_8_after$word" 2
 done

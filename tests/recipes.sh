@@ -229,29 +229,62 @@ recipe '! -exec'
 verdict files_with_an_error 0
 head -c 500 "$samples/stations.nc" >g.nc
 mkdir dir.nc
-echo './g.nc:1: error: of yesterday' | cat - <(printf "$found") | sort >yesterday
+# The first night, then one with a file more, and one that could not check a file: it keeps what was reported before.
+rm dir.nc -r
+mv g.nc away
+stdout "$found"
+recipe 'comm -13'
+verdict all_is_new_on_the_first_night 0
+mv away g.nc
 stdout "${found//f.nc/g.nc}"
 recipe 'comm -13'
 verdict new_since_yesterday 0
 run cat yesterday
 stdout "$found${found//f.nc/g.nc}"
 verdict what_is_yesterday_tomorrow 0
-run cat trouble
-stdout 'nccheck: ./dir.nc: cannot open: not a regular file\n'
-verdict what_could_not_be_checked 0
-# A file that cannot be opened for a night is in `trouble`, and its line is new when it can be opened again.
 mv g.nc away && mkdir g.nc
+stdout 'nccheck: ./g.nc: cannot open: not a regular file\n'
 recipe 'comm -13'
-verdict nothing_new_of_what_could_not_be_checked 0
-run grep -c 'nccheck: ./g.nc: cannot open' trouble
-stdout '1\n'
-verdict trouble_names_what_could_not_be_checked 0
-rmdir g.nc dir.nc && mv away g.nc
-stdout "${found//f.nc/g.nc}"
+verdict trouble_of_a_night_that_could_not_check_a_file 0
+rmdir g.nc && mv away g.nc
 recipe 'comm -13'
-verdict new_again_the_night_after 0
-run cat trouble
-verdict no_trouble 0
+verdict nothing_is_new_the_night_after 0
+rm report trouble
+recipe 'xargs'
+verdict two_runs_of_four_files 123
+stdout '3 checked, 2 with errors, 0 not\n'
+recipe 'NF - 2'
+verdict sum_of_runs 0
+if type -P jq >/dev/null; then
+    recipe 'uniq -c'
+    stdout '      2 missing\n'
+    verdict findings_of_each_kind 0
+else
+    example 'uniq -c' >>"$work/run"
+    echo 'skipped: jq is not installed'
+fi
+stdout '2 of 3 files are damaged\n'
+recipe 'json.loads'
+verdict findings_in_python 0
+recipe 'damaged.tar'
+verdict list_of_damaged_files 0
+run bash -c 'tar -tf damaged.tar | sort'
+stdout './f.nc\n./g.nc\n'
+verdict damaged_files_are_in_the_list 0
+# Records that the header doesn't count, and filling
+cp "$samples/stations.nc" f.nc
+printf '\0\0\0\2' | dd of=f.nc bs=1 seek=4 conv=notrunc status=none
+run nccheck f.nc
+stdout 'f.nc:480: violation: trailing: data: found 504 bytes, expected 480, or numrecs 3\n'
+verdict records_that_are_not_counted 1
+recipe 'seek=4'
+verdict records_are_counted 0
+run cmp f.nc "$samples/stations.nc"
+verdict file_is_as_before 0
+zeros 100 >>f.nc
+recipe 'tail -c +505'
+stdout '0\n'
+verdict filling 0
 cd ..
 
 # Each example that begins with a prompt or as a rule of make has been run.

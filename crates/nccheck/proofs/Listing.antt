@@ -1,5 +1,5 @@
 -- A run over a list whose bytes come part by part.
-use Rattle.nccheck.proofs.Prelude.{length-append, length-take-le, Bytes, HasFailed, ReaderView, Asked, Broken, Item, items_after, items_in, last_items, ListEnd, Path, Unread, Whole, MatchBool, Fails, has_ended, Openings, ReadsList, RunsFiles, State, Writes, counted, no_files, status_of, summary_line, Counts, CountsAll, CountsList, Gives, Takes, TakesItems, Tally, ◌≡◌, ℕ, ◌+◌, ◌<◌, ◌≤◌, ◌^◌, List, [], ◌∷◌, ◌++◌, ◌⊎◌, codes, inl, inr, refl, sym, ap, ◌∙◌, append_assoc, append-nil, length, take, ◌&&◌, not, map, Bool, true, false, Option, Some, None, IfSome, Err, arith, unwrap_or}
+use Rattle.nccheck.proofs.Prelude.{length-append, length-take-le, Bytes, HasFailed, ReaderView, Asked, Broken, Item, items_after, items_in, last_items, ListEnd, Path, Unread, Whole, MatchBool, Fails, has_ended, Openings, ReadsList, RunsFiles, State, Writes, counted, no_files, status_of, summary, Counts, CountsAll, CountsList, Gives, Takes, TakesItems, Tally, ◌≡◌, ℕ, ◌+◌, ◌<◌, ◌≤◌, ◌^◌, List, [], ◌∷◌, ◌++◌, ◌⊎◌, codes, inl, inr, refl, sym, ap, ◌∙◌, append_assoc, append-nil, length, take, ◌&&◌, not, map, Bool, true, false, Option, Some, None, IfSome, Err, arith, unwrap_or}
 use Rattle.std.specs.Io.KnownBytes.{Consumes}
 use Rattle.std.proofs.KnownBytes.{Consumes-all, Consumes-kept, Consumes-nil, Consumes-trans}
 use Rattle.devices.specs.Uses.{Use}
@@ -237,7 +237,7 @@ module _ {P : Type 0} {o : Openings P} {a : Asked} where
 
   pub runs_counted : {input : Use ReaderView} {old mid new : State P} {tally : Tally} {status : ℕ}
       → CountsAll o a input.before input.after old mid (Some tally)
-      → a.has_summary ≡ true → new.opener ≡ mid.opener → Writes (summary_line tally) mid new (status_of tally) status
+      → a.has_summary ≡ true → new.opener ≡ mid.opener → Writes (summary a.form tally) mid new (status_of tally) status
       → RunsFiles o a input old new status
   runs_counted {mid = mid} c some same writes = record {
     listed = c.items;

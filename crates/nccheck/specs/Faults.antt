@@ -1,20 +1,29 @@
 -- Definition. The faults of a run, and the lines that tell them.
-use Rattle.std.specs.Prelude.{[], ◌∷◌, codes}
+use Rattle.std.specs.Prelude.{[], ◌∷◌, ◌++◌, codes, Option, Some, None}
 use Rattle.nc_types.specs.Bytes.{Bytes, concat_parts}
 use Rattle.devices.specs.declared.fault.OpenFailed.{OpenFailed}
 use Rattle.devices.specs.declared.fault.OpenFailed.TheVariants.{NotFound, PermissionDenied, NotRegular, Other}
 use Rattle.nc_findings.specs.declared.list_fault.ListFault.{ListFault}
 use Rattle.nc_findings.specs.declared.list_fault.ListFault.TheVariants as list
+use Rattle.nc_window.specs.declared.head_fault.HeadFault.{HeadFault}
+use Rattle.nc_window.specs.declared.head_fault.HeadFault.TheVariants as head
 use Rattle.cli_base.specs.declared.fault.OptFault.{OptFault}
 use Rattle.cli_base.specs.declared.fault.OptFault.TheVariants as opt
 use Rattle.check_lines.specs.Shown.{shown_path}
+use Rattle.nccheck.specs.Misuse.{Misuse, GivenTwice, NoFile, NoKind, NoLevel, NoOption, NotWithFormats, NotWithPaths, NoValue}
 use Rattle.nccheck.specs.declared.{fault.FileFault.FileFault, fault.PathFault.PathFault}
-use Rattle.nccheck.specs.declared.fault.FileFault.TheVariants.{BadPath, CannotOpen, ReadFailed, OutOfMemory, WriteFailed}
+use Rattle.nccheck.specs.declared.fault.FileFault.TheVariants.{BadPath, CannotOpen, ReadFailed, NotClassic, OutOfMemory, WriteFailed}
 use Rattle.nccheck.specs.declared.fault.PathFault.TheVariants.{Empty, TooLong, NotUtf8}
 
 abbrev pub fault_of_list : ListFault → FileFault
 fault_of_list list.OutOfMemory = OutOfMemory
 fault_of_list list.ReadFailed = ReadFailed
+
+-- of the first bytes of a file alone: any other fault is that they aren't those of a netCDF classic file
+abbrev pub fault_of_head : HeadFault → FileFault
+fault_of_head head.OutOfMemory = OutOfMemory
+fault_of_head head.ReadFailed = ReadFailed
+fault_of_head (head.Format fault) = NotClassic
 
 -- a path can't be opened, whatever files there are
 unfoldable pub path_words : PathFault → Bytes
@@ -33,6 +42,7 @@ unfoldable pub fault_words : FileFault → Bytes
 fault_words (BadPath why) = path_words why
 fault_words (CannotOpen why) = open_words why
 fault_words ReadFailed = codes "read failed"
+fault_words NotClassic = codes "not a netCDF classic file"
 fault_words OutOfMemory = codes "out of memory"
 fault_words WriteFailed = codes "write failed"
 
@@ -43,9 +53,33 @@ file_line file fault = concat_parts (codes "nccheck: " ∷ shown_path file ∷ c
 unfoldable pub flush_line : Bytes
 flush_line = codes "nccheck: write failed\n"
 
-unfoldable pub usage_line : Bytes
-usage_line = codes "usage: nccheck [-q] [-s] [-0] [-l level] [-i kinds] [file ...]\n"
+-- ---- the command line
 
-unfoldable pub opt_fault_line : OptFault → Bytes
-opt_fault_line opt.OutOfMemory = codes "nccheck: out of memory\n"
-opt_fault_line opt.Usage = usage_line
+unfoldable pub usage_lines : Bytes
+usage_lines =
+    codes "usage: nccheck [-q] [-s] [-j] [-0] [-l level] [-i kinds] [file ...]\n"
+    ++ codes "       nccheck -p [-0] [-l level] [-i kinds] [file ...]\n"
+    ++ codes "       nccheck -k [-0] [file ...]\n"
+
+unfoldable pub memory_line : Bytes
+memory_line = codes "nccheck: out of memory\n"
+
+-- before the words are read: memory has run out, or an argument isn't UTF-8
+unfoldable pub opt_fault_lines : OptFault → Bytes
+opt_fault_lines opt.OutOfMemory = memory_line
+opt_fault_lines opt.Usage = concat_parts (codes "nccheck: an argument is not UTF-8: give paths by -0\n" ∷ usage_lines ∷ [])
+
+unfoldable pub misuse_words : Misuse → Bytes
+misuse_words (NoOption word) = concat_parts (codes "no option " ∷ shown_path word ∷ [])
+misuse_words (GivenTwice letter) = concat_parts (codes "-" ∷ (letter ∷ []) ∷ codes " is given twice" ∷ [])
+misuse_words NoValue = codes "an option has no value"
+misuse_words NotWithPaths = codes "-p takes no -q, -s or -j beside it"
+misuse_words NotWithFormats = codes "-k takes no option but -0 beside it"
+misuse_words (NoLevel word) = concat_parts (codes "no level " ∷ shown_path word ∷ [])
+misuse_words (NoKind word) = concat_parts (codes "no kind " ∷ shown_path word ∷ [])
+misuse_words NoFile = codes "no file"
+
+-- how the words are misused, and the usage; or memory has run out
+unfoldable pub refusal_lines : Option Misuse → Bytes
+refusal_lines None = memory_line
+refusal_lines (Some misuse) = concat_parts (codes "nccheck: " ∷ misuse_words misuse ∷ codes "\n" ∷ usage_lines ∷ [])

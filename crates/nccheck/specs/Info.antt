@@ -2,7 +2,7 @@
 use Rattle.std.specs.Prelude.{◌||◌, if◌then◌else◌, List, [], ◌∷◌, ◌++◌, codes, Option, Some, None}
 use Rattle.std.specs.Str.{bytes_eq}
 use Rattle.nc_types.specs.Bytes.{Bytes}
-use Rattle.nccheck.specs.Faults.{usage_line}
+use Rattle.nccheck.specs.Faults.{usage_lines}
 use Rattle.nccheck.specs.declared.info.Info.{Info}
 use Rattle.nccheck.specs.declared.info.Info.TheVariants.{Version, Help}
 
@@ -21,13 +21,16 @@ info_in [] = None
 info_in (name ∷ words) = info_among words
 
 unfoldable pub version_line : Bytes
-version_line = codes "nccheck 0.3.3\n"
+version_line = codes "nccheck 0.4.0\n"
 
 -- a line for each option
 unfoldable pub option_lines : Bytes
 option_lines =
-    codes "  -q        write no lines of findings\n"
+    codes "  -q        write no findings\n"
     ++ codes "  -s        count the files in a last line\n"
+    ++ codes "  -j        write findings as JSON objects, one a line\n"
+    ++ codes "  -p        write the paths of files with findings instead, each ended by a NUL\n"
+    ++ codes "  -k        write the format of each file instead: nc3, nc6 or nc5\n"
     ++ codes "  -0        check the files too whose paths standard input has, each ended by a NUL\n"
     ++ codes "  -l level  report what is at least as grave: error, violation (the default) or note\n"
     ++ codes "  -i kinds  ignore findings of these kinds (a comma-separated list)\n"
@@ -37,4 +40,4 @@ option_lines =
 
 unfoldable pub info_text : Info → Bytes
 info_text Version = version_line
-info_text Help = usage_line ++ option_lines
+info_text Help = usage_lines ++ option_lines

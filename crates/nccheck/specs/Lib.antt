@@ -1,8 +1,10 @@
 pub mod KindWords
 pub mod PathLists
+pub mod Misuse
 pub mod CommandLine
 pub mod Faults
 pub mod Info
+pub mod Formats
 pub mod Tallies
 pub mod Runs
 pub mod code

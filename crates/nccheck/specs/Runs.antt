@@ -1,5 +1,5 @@
 -- Definition. What a run of the program has done.
-use Rattle.std.specs.Prelude.{ℕ, ◌≡◌, ◌+◌, ◌^◌, ◌≤◌, ◌⊎◌, ◌&&◌, not, Bool, true, false, if◌then◌else◌, List, [], ◌∷◌, ◌++◌, codes, length, map, Option, Some, None, IfSome, IsSomeAnd, MatchBool, MatchOption, Result, Ok, Err}
+use Rattle.std.specs.Prelude.{ℕ, ◌≡◌, ◌+◌, ◌^◌, ◌≤◌, ◌⊎◌, ◌&&◌, not, Bool, true, false, if◌then◌else◌, List, [], ◌∷◌, ◌++◌, codes, length, map, Option, Some, None, is_some, IfSome, IsOkAnd, IsSomeAnd, MatchBool, MatchOption, Result, Ok, Err}
 use Rattle.std.specs.Bool.{OnTrue}
 use Rattle.std.specs.Io.KnownBytes.{Consumes}
 use Rattle.std.specs.List.{list_any}
@@ -13,45 +13,65 @@ use Rattle.devices.specs.declared.fault.OpenFailed.TheVariants.{NotFound}
 use Rattle.nc_report.specs.Reports.{IsReport}
 use Rattle.nc_findings.specs.declared.listing.Listing.{Listing}
 use Rattle.nc_findings.specs.declared.{finding.Finding.Finding, report.Report.Report}
-use Rattle.cli_base.specs.declared.fault.OptFault.{OptFault}
-use Rattle.cli_base.specs.declared.fault.OptFault.TheVariants as opt
-use Rattle.check_lines.specs.Lines.{lines}
+use Rattle.check_lines.specs.Lines.{Filter, gravest, json_lines, lines}
 use Rattle.nccheck.specs.CommandLine.{Asked, asked_by}
-use Rattle.nccheck.specs.Faults.{file_line, flush_line, opt_fault_line}
+use Rattle.nccheck.specs.Faults.{file_line, flush_line, refusal_lines}
+use Rattle.nccheck.specs.Formats.{format_line, format_of}
 use Rattle.nccheck.specs.Info.{info_in, info_text}
+use Rattle.nccheck.specs.Misuse.{Misuse}
 use Rattle.nccheck.specs.PathLists.{path_fault, Item, items_in, ListEnd, Path, Unread, Whole, Broken}
-use Rattle.nccheck.specs.Tallies.{Answer, outcome_of, status_of, summary_line, tally_of}
-use Rattle.nccheck.specs.declared.{fault.FileFault.FileFault, info.Info.Info, tally.Outcome.Outcome}
-use Rattle.nccheck.specs.declared.fault.FileFault.TheVariants.{BadPath, CannotOpen, ReadFailed, OutOfMemory, WriteFailed}
+use Rattle.nccheck.specs.Tallies.{Answer, outcome_of, status_of, summary, tally_of}
+use Rattle.nccheck.specs.declared.{fault.FileFault.FileFault, info.Info.Info, options.Form.Form, tally.Outcome.Outcome}
+use Rattle.nccheck.specs.declared.options.Form.TheVariants.{Lines, Objects, Paths}
+use Rattle.nccheck.specs.declared.tally.Outcome.TheVariants.{NothingReported}
+use Rattle.nccheck.specs.declared.fault.FileFault.TheVariants.{BadPath, CannotOpen, NotClassic, ReadFailed, OutOfMemory, WriteFailed}
 
 -- ---- the check of one file
 
--- the lines of these findings that are asked for; none in a quiet run
-abbrev pub shown : Asked → Bytes → Listing → List Finding → Bytes
-shown a file l findings = if a.is_quiet then [] else lines a.filter file l findings
+-- what is written of these findings in each form
+abbrev pub written : Form → Filter → Bytes → Listing → List Finding → Bytes
+written Lines filter file l findings = lines filter file l findings
+written Objects filter file l findings = json_lines filter file l findings
+written Paths filter file l findings = if is_some (gravest filter findings) then file ++ 0 ∷ [] else []
 
--- the file has these bytes; its lines were written, unless it was quiet, and this came of it
+-- what is asked for of them: nothing in a quiet run
+abbrev pub shown : Asked → Bytes → Listing → List Finding → Bytes
+shown a file l findings = if a.is_quiet then [] else written a.form a.filter file l findings
+
+-- the file has these bytes; what is asked for of its findings was written, and this came of it
 pub record Checks (a : Asked) (bytes file : Bytes) (old new : SinkView) (came : Outcome) : Type 0 where
   pub report : Report
   pub is_report : IsReport bytes report
   pub text : Appended old new (shown a file report.listing report.findings)
   pub said : came ≡ outcome_of a.filter report.findings
 
--- the file has these bytes, and a prefix of its lines was written before standard output failed (a quiet run writes none)
+-- the file has these bytes, and a prefix of that was written before standard output failed (a quiet run writes nothing)
 pub record BreaksOff (a : Asked) (bytes file : Bytes) (old new : SinkView) : Type 0 where
   pub report : Report
   pub is_report : IsReport bytes report
   pub not_quiet : a.is_quiet ≡ false
   pub partway : FailedPartway old new (shown a file report.listing report.findings)
 
+-- what was written of the findings of a file with these bytes
+abbrev pub Reports : Asked → Bytes → Bytes → SinkView → SinkView → Answer → Type 0
+Reports a bytes file old new (Ok came) = Checks a bytes file old new came
+Reports a bytes file old new (Err WriteFailed) = BreaksOff a bytes file old new
+Reports a bytes file old new (Err ReadFailed) = new ≡ old
+Reports a bytes file old new (Err OutOfMemory) = new ≡ old
+Reports a bytes file old new (Err fault) = ⊥
+
+-- a line tells the format of a file with these bytes, or it has none
+abbrev pub TellsFormat : Bytes → SinkView → SinkView → Answer → Type 0
+TellsFormat bytes old new (Ok came) = IsSomeAnd (format_of bytes) (λ format. Appended old new (format_line format)) × (came ≡ NothingReported)
+TellsFormat bytes old new (Err WriteFailed) = IsSomeAnd (format_of bytes) (λ format. FailedPartway old new (format_line format))
+TellsFormat bytes old new (Err NotClassic) = (format_of bytes ≡ None) × (new ≡ old)
+TellsFormat bytes old new (Err ReadFailed) = new ≡ old
+TellsFormat bytes old new (Err OutOfMemory) = new ≡ old
+TellsFormat bytes old new (Err fault) = ⊥
+
 -- what was written of a file with these bytes
 abbrev pub ChecksBytes : Asked → Bytes → Bytes → SinkView → SinkView → Answer → Type 0
-ChecksBytes a bytes file old new (Ok came) = Checks a bytes file old new came
-ChecksBytes a bytes file old new (Err WriteFailed) = BreaksOff a bytes file old new
-ChecksBytes a bytes file old new (Err (BadPath why)) = ⊥
-ChecksBytes a bytes file old new (Err (CannotOpen why)) = ⊥
-ChecksBytes a bytes file old new (Err ReadFailed) = new ≡ old
-ChecksBytes a bytes file old new (Err OutOfMemory) = new ≡ old
+ChecksBytes a bytes file old new answer = MatchBool a.tells_formats (TellsFormat bytes old new answer) (Reports a bytes file old new answer)
 
 -- there is no such file, and nothing was written
 abbrev pub Unopened : SinkView → SinkView → Answer → Type 0
@@ -193,30 +213,26 @@ pub record RunsFiles {P : Type 0} (o : Openings P) (a : Asked) (input : Use Read
   pub runs : RunsOver o a (map Path a.files ++ listed) old mid answers
   pub opener : new.opener ≡ mid.opener
   pub ends : MatchBool (a.has_summary && not (has_ended answers))
-      (Writes (summary_line (tally_of answers)) mid new (status_of (tally_of answers)) status)
+      (Writes (summary a.form (tally_of answers)) mid new (status_of (tally_of answers)) status)
       ((new ≡ mid) × (status ≡ status_of (tally_of answers)))
 
 -- ---- the whole run
 
--- the words ask for nothing, or memory ran out while they were read
-abbrev pub Refuses : Option Asked → OptFault → Type 0
-Refuses asked opt.Usage = asked ≡ None
-Refuses asked opt.OutOfMemory = Unit {0}
-
--- nothing was opened, read or written, but the line of a fault of the command line to standard error, or a prefix of it
-pub record RefusesWords {P : Type 0} (asked : Option Asked) (input : Use ReaderView) (old new : State P) (status : ℕ) : Type 0 where
-  pub fault : OptFault
-  pub refuses : Refuses asked fault
+-- nothing was opened, read or written, but the lines of a command line that is misused, or for which memory ran out, to standard error, or
+-- a prefix of them
+pub record RefusesWords {P : Type 0} (asked : Result Asked Misuse) (input : Use ReaderView) (old new : State P) (status : ℕ) : Type 0 where
+  pub misuse : Option Misuse
+  pub is : IfSome misuse (λ why. asked ≡ Err why)
   pub unread : input.after ≡ input.before
   pub opener : new.opener ≡ old.opener
   pub out : new.out ≡ old.out
-  pub tells : IsTold old.err new.err (opt_fault_line fault)
+  pub tells : IsTold old.err new.err (refusal_lines misuse)
   pub trouble : status ≡ 2
 
 -- the words were refused, or the paths that they name were checked
-abbrev pub RunsAsked : {P : Type 0} → Openings P → Option Asked → Use ReaderView → State P → State P → ℕ → Type 0
+abbrev pub RunsAsked : {P : Type 0} → Openings P → Result Asked Misuse → Use ReaderView → State P → State P → ℕ → Type 0
 RunsAsked o asked input old new status =
-    RefusesWords asked input old new status ⊎ IsSomeAnd asked (λ a. RunsFiles o a input old new status)
+    RefusesWords asked input old new status ⊎ IsOkAnd asked (λ a. RunsFiles o a input old new status)
 
 -- what the program tells of itself was written, and nothing was opened or read
 pub record Informs {P : Type 0} (info : Info) (input : Use ReaderView) (old new : State P) (status : ℕ) : Type 0 where

@@ -8,6 +8,8 @@ use Rattle.nc_findings.specs.declared.kind.Kind.TheVariants.{Hdf5, Gzip}
 use Rattle.nc_findings.specs.declared.kind.Severity.TheVariants.{Error, Violation, Note}
 use Rattle.check_lines.specs.Lines.{Filter, gravest}
 use Rattle.nccheck.specs.declared.{fault.FileFault.FileFault, tally.Outcome.Outcome, tally.SummaryCount.SummaryCount, tally.Tally.Tally}
+use Rattle.nccheck.specs.declared.options.Form.{Form}
+use Rattle.nccheck.specs.declared.options.Form.TheVariants.{Objects}
 use Rattle.nccheck.specs.declared.tally.Outcome.TheVariants.{Reported, NothingReported, OtherFormat}
 use Rattle.nccheck.specs.declared.tally.SummaryCount.TheVariants.{Checked, WithErrors, WithViolations, WithNotes, WithNothing, OtherFormats, NotChecked}
 
@@ -86,6 +88,31 @@ reported_text t = concat_parts (
     count_text t.with_notes WithNotes ∷
     count_text t.with_nothing WithNothing ∷ [])
 
+-- the line of `-s`
 unfoldable pub summary_line : Tally → Bytes
 summary_line t = concat_parts (
     count_text (checked t) Checked ∷ reported_text t ∷ count_text t.other_formats OtherFormats ∷ count_text t.not_checked NotChecked ∷ [])
+
+-- a member of an object: the text before its number, and the number
+unfoldable pub member : Bytes → ℕ → Bytes
+member before n = concat_parts (before ∷ decimal n ∷ [])
+
+-- the object of `-s` beside `-j`, in a line of its own
+unfoldable pub reported_members : Tally → Bytes
+reported_members t = concat_parts (
+    member (codes "{\"checked\":") (checked t) ∷
+    member (codes ",\"errors\":") t.with_errors ∷
+    member (codes ",\"violations\":") t.with_violations ∷
+    member (codes ",\"notes\":") t.with_notes ∷ [])
+
+unfoldable pub summary_object : Tally → Bytes
+summary_object t = concat_parts (
+    reported_members t ∷
+    member (codes ",\"nothing_to_report\":") t.with_nothing ∷
+    member (codes ",\"other_formats\":") t.other_formats ∷
+    member (codes ",\"not_checked\":") t.not_checked ∷ codes "}\n" ∷ [])
+
+-- beside `-p` there is no `-s`
+abbrev pub summary : Form → Tally → Bytes
+summary Objects t = summary_object t
+summary form t = summary_line t

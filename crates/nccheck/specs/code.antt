@@ -1,3 +1,4 @@
 pub mod Options
+pub mod Misuses
 pub mod Counts
 pub mod OpenedFiles

@@ -1,25 +1,29 @@
 //! The words of the command line.
 
-ghost use Rattle.std.specs.Prelude.{◌≡◌, ℕ, ◌==◌, false, IfOk, option_map};
-ghost use Rattle.std.specs.List.{list_all, slice_split};
+ghost use Rattle.std.specs.Prelude.{◌≡◌, ℕ, ◌==◌, false, not, find, IfOk};
+ghost use Rattle.std.specs.List.{slice_split};
 ghost use Rattle.std.specs.Str.{byte};
 ghost use Rattle.clap.specs.Words.{all_of, app_of, found_of, rows_of, rule_of};
 ghost use Rattle.cli_base.specs.Arguments.{texts_of};
-ghost use Rattle.cli_base.specs.code.Answers.{AnswersBy, text_of};
-ghost use Rattle.nccheck.specs.CommandLine.{asked_by, asked_in, files_in, files_rule, ignored_in, kinds_said, level_in, level_said, nccheck};
+ghost use Rattle.cli_base.specs.code.Answers.{text_of};
+ghost use Rattle.nccheck.specs.CommandLine.{asked_by, asked_in, asks_of_findings, changes_output, files_in, files_rule, form_in, ignored_in, kinds_said, level_in, level_said, nccheck};
 ghost use Rattle.nccheck.specs.KindWords.{is_kind_word};
-ghost use Rattle.nccheck.specs.code.Options.{asked_for, texts_in};
+ghost use Rattle.nccheck.specs.Misuse.{misuse_of};
+ghost use Rattle.nccheck.specs.code.Misuses.{RefusesBy, Says};
+ghost use Rattle.nccheck.specs.code.Options.{asked_for, lent_texts, texts_in};
 
 use crate::kind_words::is_kind_word;
-use crate::options::CheckOptions;
+use crate::misuse::{CommandFault, Misuse, misuse_of};
+use crate::options::{CheckOptions, Form};
 use check_lines::FilterOptions;
+use clap::error::ErrorKind;
 use clap::{Arg, ArgAction, ArgMatches, Command};
-use cli_base::{OptFault, flag, is_given, option, value_of};
+use cli_base::{flag, is_given, option, value_of};
 use nc_base::Sequence;
 use nc_report::Severity;
 use std::alloc::{AllocError, Global};
 
-/// Returns the command `nccheck [-q] [-s] [-0] [-l level] [-i kinds] [file ...]` of nccheck(1).
+/// Returns the command `nccheck [-q] [-s] [-j] [-p] [-k] [-0] [-l level] [-i kinds] [file ...]` of nccheck(1).
 ///
 /// The command takes each option at most once, before, between or after the files. [`options_of`] reads the matches of the command.
 ///
@@ -34,6 +38,9 @@ pub fn command<'a>(alloc: Global) -> Result<Command<'a>, AllocError>
         .disable_version_flag(true)
         .arg(flag(alloc, "quiet", 'q'))?
         .arg(flag(alloc, "summary", 's'))?
+        .arg(flag(alloc, "objects", 'j'))?
+        .arg(flag(alloc, "paths", 'p'))?
+        .arg(flag(alloc, "formats", 'k'))?
         .arg(flag(alloc, "list", '0'))?
         .arg(option(alloc, "level", 'l'))?
         .arg(option(alloc, "ignored", 'i'))?
@@ -52,15 +59,27 @@ fn files<'a>(alloc: Global) -> Arg<'a>
 ///
 /// # Errors
 ///
-/// Those of [`options_of`], also if an allocation fails here, and [`OptFault::Usage`] for words that the command doesn't take.
+/// Those of [`options_of`], also if an allocation fails here, and the misuse of words that the command doesn't take.
 pub(crate) fn options_of_words<'a>(
     alloc: Global,
     words: &'a [&'a str],
-) -> Result<CheckOptions<'a>, OptFault>
-    ensures { AnswersBy asked_for (asked_by (texts_of words.entry.now)) result }
+) -> Result<CheckOptions<'a>, CommandFault<'a>>
+    ensures { Says asked_for (asked_by (texts_of words.entry.now)) result }
 {
-    let matches = command(alloc)?.try_get_matches_from(words)?;
-    options_of(alloc, &matches)
+    match command(alloc)?.try_get_matches_from(words) {
+        Ok(matches) => options_of(alloc, &matches),
+        Err(error) => Err(refusal(error.kind(), words)),
+    }
+}
+
+/// Returns the fault of words that the command doesn't take, by the kind of the parse's error: out of memory, or how they are misused.
+fn refusal<'a>(kind: ErrorKind, words: &[&'a str]) -> CommandFault<'a>
+    ensures { RefusesBy kind (misuse_of (texts_of words.now)) result }
+{
+    match kind {
+        ErrorKind::OutOfMemory => CommandFault::OutOfMemory,
+        _ => CommandFault::Misused(misuse_of(words)),
+    }
 }
 
 /// Returns the options that the matches of [`command`] ask for. [`CheckOptions`] says which field each option gives. Without `-l`,
@@ -68,25 +87,65 @@ pub(crate) fn options_of_words<'a>(
 ///
 /// # Errors
 ///
-/// [`OptFault::Usage`] if no file is named and `-0` isn't given, if the value of `-l` isn't `error`, `violation` or `note`, or if a part of
-/// the value of `-i` between its commas isn't the word of a kind. [`OptFault::OutOfMemory`] only if an allocation failed.
+/// A misuse if `-q`, `-s` or `-j` stands beside `-p`, or any option but `-0` beside `-k`, if the value of `-l` isn't `error`, `violation`
+/// or `note`, if a part of the value of `-i` between its commas isn't the word of a kind, or if no file is named and `-0` isn't given.
+/// [`CommandFault::OutOfMemory`] only if an allocation failed.
 #[tactic(auto, unfolding(crate::specs::CommandLine::asked_in))]
-pub fn options_of<'a>(alloc: Global, matches: &ArgMatches<'a>) -> Result<CheckOptions<'a>, OptFault>
-    ensures { AnswersBy asked_for (asked_in (rows_of (found_of matches.now))) result }
+pub fn options_of<'a>(
+    alloc: Global,
+    matches: &ArgMatches<'a>,
+) -> Result<CheckOptions<'a>, CommandFault<'a>>
+    ensures { Says asked_for (asked_in (rows_of (found_of matches.now))) result }
 {
+    if is_given(matches, "formats") && asks_of_findings(matches) {
+        return Err(Misuse::NotWithFormats.into());
+    }
+    if is_given(matches, "paths") && changes_output(matches) {
+        return Err(Misuse::NotWithPaths.into());
+    }
+    let level = level_in(value_of(matches, "level"))?;
+    let ignored = ignored_in(alloc, value_of(matches, "ignored"))?;
     let reads_paths_from_input = is_given(matches, "list");
-    let files = files_in(reads_paths_from_input, values_of(matches, "file")).ok_or(
-        OptFault::Usage,
-    )?;
-    let level = level_in(value_of(matches, "level")).ok_or(OptFault::Usage)?;
-    let ignored = ignored_in(alloc, value_of(matches, "ignored"))?.ok_or(OptFault::Usage)?;
+    let files = files_in(reads_paths_from_input, values_of(matches, "file"))?;
     Ok(CheckOptions {
         files: Sequence::from_vec(Vec::from_slice(alloc, files)?),
         reads_paths_from_input,
+        tells_formats: is_given(matches, "formats"),
         filter: FilterOptions { level, ignored },
+        form: form_in(matches),
         is_quiet: is_given(matches, "quiet"),
         has_summary: is_given(matches, "summary"),
     })
+}
+
+/// Returns how findings are to be written.
+fn form_in(matches: &ArgMatches) -> Form
+    ensures { result ≡ form_in (rows_of (found_of matches.now)) }
+{
+    if is_given(matches, "paths") {
+        Form::Paths
+    } else if is_given(matches, "objects") {
+        Form::Objects
+    } else {
+        Form::Lines
+    }
+}
+
+/// Returns true if an option is given that can't stand beside `-p`, since it asks for another output.
+fn changes_output(matches: &ArgMatches) -> bool
+    ensures { result ≡ changes_output (rows_of (found_of matches.now)) }
+{
+    is_given(matches, "quiet") || is_given(matches, "summary") || is_given(matches, "objects")
+}
+
+/// Returns true if an option is given that can't stand beside `-k`, since it asks for something about findings.
+fn asks_of_findings(matches: &ArgMatches) -> bool
+    ensures { result ≡ asks_of_findings (rows_of (found_of matches.now)) }
+{
+    changes_output(matches)
+        || is_given(matches, "paths")
+        || value_of(matches, "level").is_some()
+        || value_of(matches, "ignored").is_some()
 }
 
 /// Returns the values of the argument with this id, or `None` if it isn't given.
@@ -97,68 +156,69 @@ fn values_of<'a, 'b>(matches: &'b ArgMatches<'a>, id: &str) -> Option<&'b [&'a s
 }
 
 /// Returns `files`, the paths among the words. If there are none (`None`), returns no paths if `reads_paths_from_input` is true, since the
-/// paths are on standard input then, and otherwise `None`.
+/// paths are on standard input then, and otherwise errs with `NoFile`.
 fn files_in<'a, 'b>(
     reads_paths_from_input: bool,
     files: Option<&'b [&'a str]>,
-) -> Option<&'b [&'a str]>
-    ensures { texts_in result ≡ files_in reads_paths_from_input (texts_in files.entry) }
+) -> Result<&'b [&'a str], CommandFault<'a>>
+    ensures { Says lent_texts (files_in reads_paths_from_input (texts_in files.entry)) result }
 {
     match files {
-        Some(files) => Some(files),
-        None if reads_paths_from_input => Some(&[]),
-        None => None,
+        Some(files) => Ok(files),
+        None if reads_paths_from_input => Ok(&[]),
+        None => Err(Misuse::NoFile.into()),
     }
 }
 
-/// Returns the level that `word`, the value of `-l`, asks for, or `Violation` if there is no `-l`. Returns `None` if the word is no level.
-fn level_in(word: Option<&str>) -> Option<Severity>
-    ensures { result ≡ level_in (text_of word.entry) }
+/// Returns the level that `word`, the value of `-l`, asks for, or `Violation` if there is no `-l`. Errs with `NoLevel` if the word is no
+/// level.
+fn level_in<'a>(word: Option<&'a str>) -> Result<Severity, CommandFault<'a>>
+    ensures { Says (λ level. level) (level_in (text_of word.entry)) result }
 {
     match word {
         Some(word) => level_of(word),
-        None => Some(Severity::Violation),
+        None => Ok(Severity::Violation),
     }
 }
 
-/// Returns the severity that `word` names, `error`, `violation` or `note`, or `None` for any other word.
-fn level_of(word: &str) -> Option<Severity>
-    ensures { result ≡ level_said word.now }
+/// Returns the severity that `word` names, `error`, `violation` or `note`. Errs with `NoLevel` for any other word.
+fn level_of<'a>(word: &'a str) -> Result<Severity, CommandFault<'a>>
+    ensures { Says (λ level. level) (level_said word.entry.now) result }
 {
     if word == "error" {
-        Some(Severity::Error)
+        Ok(Severity::Error)
     } else if word == "violation" {
-        Some(Severity::Violation)
+        Ok(Severity::Violation)
     } else if word == "note" {
-        Some(Severity::Note)
+        Ok(Severity::Note)
     } else {
-        None
+        Err(Misuse::NoLevel(word).into())
     }
 }
 
-/// Returns the words of kinds in `word`, the value of `-i`, or no words if there is no value. Returns `None` if one of them isn't the word
-/// of a kind. Errs only if an allocation failed.
+/// Returns the words of kinds in `word`, the value of `-i`, or no words if there is no value. Errs with `NoKind` if one of them isn't the
+/// word of a kind, and if an allocation failed.
 fn ignored_in<'a>(
     alloc: Global,
     word: Option<&'a str>,
-) -> Result<Option<Sequence<&'a str>>, AllocError>
-    ensures { IfOk result (λ words. option_map texts_of words ≡ ignored_in (text_of word.entry)) }
+) -> Result<Sequence<&'a str>, CommandFault<'a>>
+    ensures { Says texts_of (ignored_in (text_of word.entry)) result }
 {
     match word {
         Some(word) => kinds_in(alloc, word),
-        None => Ok(Some(Sequence::new(alloc))),
+        None => Ok(Sequence::new(alloc)),
     }
 }
 
-/// Returns the parts of `word` between its commas, or `None` if one of them isn't the word of a kind. Errs only if an allocation failed.
-fn kinds_in<'a>(alloc: Global, word: &'a str) -> Result<Option<Sequence<&'a str>>, AllocError>
-    ensures { IfOk result (λ words. option_map texts_of words ≡ kinds_said word.entry.now) }
+/// Returns the parts of `word` between its commas. Errs with `NoKind` for the first that isn't the word of a kind, and if an allocation
+/// failed.
+fn kinds_in<'a>(alloc: Global, word: &'a str) -> Result<Sequence<&'a str>, CommandFault<'a>>
+    ensures { Says texts_of (kinds_said word.entry.now) result }
 {
     let words = parts_of(alloc, word)?;
-    if are_kinds(words.as_slice()) {
-        Ok(Some(words))
-    } else {
-        Ok(None)
+    match first_no_kind(words.as_slice()) {
+        Some(part) => Err(Misuse::NoKind(part).into()),
+        None => Ok(words),
     }
 }
 
@@ -170,14 +230,14 @@ fn parts_of<'a>(alloc: Global, word: &'a str) -> Result<Sequence<&'a str>, Alloc
     Ok(Sequence::from_vec(word.split(',').collect(alloc)?))
 }
 
-/// Returns true if each of the words is the word of a kind of findings, such as `gap`.
-fn are_kinds(words: &[&str]) -> bool
-    ensures { result ≡ list_all is_kind_word (texts_of words.now) }
+/// Returns the first of the words that isn't the word of a kind of findings, such as `gap`.
+fn first_no_kind<'a>(words: &[&'a str]) -> Option<&'a str>
+    ensures { text_of result ≡ find (λ word. not (is_kind_word word)) (texts_of words.now) }
 {
     for word in words {
         if !is_kind_word(word) {
-            return false;
+            return Some(*word);
         }
     }
-    true
+    None
 }

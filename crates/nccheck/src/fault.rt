@@ -1,11 +1,12 @@
 //! Why a file could not be checked.
 
 ghost use Rattle.std.specs.Prelude.{◌≡◌};
-ghost use Rattle.nccheck.specs.Faults.{fault_of_list};
+ghost use Rattle.nccheck.specs.Faults.{fault_of_head, fault_of_list};
 ghost use Rattle.nccheck.specs.declared.fault.FileFault.TheVariants.{CannotOpen, WriteFailed as write_failed};
 
 use devices::{OpenFailed, WriteFailed};
 use nc_findings::ListFault;
+use nc_window::HeadFault;
 
 /// Why a path can't be one of a file.
 #[derive(Clone, Copy)]
@@ -27,6 +28,8 @@ pub enum FileFault {
     CannotOpen(OpenFailed),
     /// The file could not be read.
     ReadFailed,
+    /// The file isn't a netCDF classic file, by its first four bytes, where its format is asked for (`-k`).
+    NotClassic,
     /// An allocation failed.
     OutOfMemory,
     /// The sink failed. It took some prefix of the lines.
@@ -50,6 +53,20 @@ impl From<ListFault> for FileFault {
         match fault {
             ListFault::OutOfMemory => FileFault::OutOfMemory,
             ListFault::ReadFailed => FileFault::ReadFailed,
+        }
+    }
+}
+
+impl From<HeadFault> for FileFault {
+    ghost from_gives = { λ fault e. e ≡ fault_of_head fault };
+
+    /// Turns a fault of reading the first bytes into the same fault of the file, for the `?` after that. If they don't come, the file is no
+    /// netCDF classic file.
+    fn from(fault: HeadFault) -> FileFault {
+        match fault {
+            HeadFault::OutOfMemory => FileFault::OutOfMemory,
+            HeadFault::ReadFailed => FileFault::ReadFailed,
+            HeadFault::Format(_) => FileFault::NotClassic,
         }
     }
 }

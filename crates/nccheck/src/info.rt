@@ -5,7 +5,7 @@ ghost use Rattle.devices.specs.code.SinkWrites.{Wrote};
 ghost use Rattle.cli_base.specs.Arguments.{texts_of};
 ghost use Rattle.nccheck.specs.Info.{info_among, info_in, info_text, option_lines, version_line};
 
-use crate::fault_text::usage_line;
+use crate::fault_text::usage_lines;
 use devices::{Sink, WriteFailed, put};
 
 /// What the program tells of itself.
@@ -58,7 +58,7 @@ pub(crate) fn put_info<W: Sink>(sink: &mut W, info: Info) -> Result<(), WriteFai
     match info {
         Info::Version => put(sink, version_line()),
         Info::Help => {
-            put(sink, usage_line())?;
+            put(sink, usage_lines())?;
             put(sink, option_lines())
         }
     }
@@ -69,7 +69,7 @@ pub(crate) fn put_info<W: Sink>(sink: &mut W, info: Info) -> Result<(), WriteFai
 fn version_line() -> &'static [u8]
     ensures { result.now ≡ version_line }
 {
-    b"nccheck 0.3.3\n"
+    b"nccheck 0.4.0\n"
 }
 
 /// Returns the lines that say what each option does.
@@ -77,8 +77,11 @@ fn version_line() -> &'static [u8]
 fn option_lines() -> &'static [u8]
     ensures { result.now ≡ option_lines }
 {
-    b"  -q        write no lines of findings\n  \
+    b"  -q        write no findings\n  \
     -s        count the files in a last line\n  \
+    -j        write findings as JSON objects, one a line\n  \
+    -p        write the paths of files with findings instead, each ended by a NUL\n  \
+    -k        write the format of each file instead: nc3, nc6 or nc5\n  \
     -0        check the files too whose paths standard input has, each ended by a NUL\n  \
     -l level  report what is at least as grave: error, violation (the default) or note\n  \
     -i kinds  ignore findings of these kinds (a comma-separated list)\n  \

@@ -3,6 +3,17 @@
 use check_lines::FilterOptions;
 use nc_base::Sequence;
 
+/// How the findings of a file are written to standard output.
+#[derive(Clone, Copy, Debug)]
+pub enum Form {
+    /// A line for each finding.
+    Lines,
+    /// A JSON object for each finding, in a line of its own: `-j`.
+    Objects,
+    /// The path of the file, ended by a NUL, if something is reported of it: `-p`.
+    Paths,
+}
+
 /// Which files to check, and what to report of them (the options of nccheck(1)).
 #[derive(Debug, Drop)]
 pub struct CheckOptions<'a> {
@@ -10,8 +21,12 @@ pub struct CheckOptions<'a> {
     pub files: Sequence<&'a str>,
     /// True if more paths are read from standard input, each ended by a NUL: `-0`.
     pub reads_paths_from_input: bool,
+    /// True if files aren't checked: a line tells the format of each ([`Version`](nc_base::Version)): `-k`.
+    pub tells_formats: bool,
     /// Which findings to report.
     pub filter: FilterOptions<'a>,
+    /// How they are written to standard output.
+    pub form: Form,
     /// True if no finding is written to standard output: `-q`.
     pub is_quiet: bool,
     /// True if a last line says how many files were checked, and what was reported of them: `-s`.

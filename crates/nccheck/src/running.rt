@@ -11,7 +11,7 @@ ghost use Rattle.nccheck.specs.code.Options.{asked_for};
 
 use crate::command_line::options_of_words;
 use crate::counting::check_all;
-use crate::fault_text::{put_command_line_fault, put_flush_fault};
+use crate::fault_text::{put_flush_fault, put_refusal};
 use crate::info::{Info, info_in, put_info};
 use crate::options::CheckOptions;
 use crate::tally::{CLEAN, TROUBLE, put_summary};
@@ -96,8 +96,8 @@ fn inform<O: Sink, E: Sink>(info: Info, out: &mut O, err: &mut E) -> u8
     }
 }
 
-/// Checks the files that the words name, and returns the exit status ([`check_files`]). If the words are wrong, or an allocation failed
-/// while they were read, writes a line to `err`, and returns 2.
+/// Checks the files that the words name, and returns the exit status ([`check_files`]). If the words are misused, or an allocation failed
+/// while they were read, says so on `err`, and returns 2.
 #[tactic(auto, using(crate::proofs::InTurn::is_told))]
 fn check_for_words<P: Opener, R: Read, O: Sink, E: Sink>(
     opener: &mut P,
@@ -118,7 +118,7 @@ fn check_for_words<P: Opener, R: Read, O: Sink, E: Sink>(
     match options_of_words(alloc, words) {
         Ok(options) => check_files(opener, alloc, &options, input, out, err),
         Err(fault) => {
-            let _ = put_command_line_fault(err, fault);
+            let _ = put_refusal(err, fault);
             TROUBLE
         }
     }
@@ -148,7 +148,7 @@ fn check_files<P: Opener, R: Read, O: Sink, E: Sink>(
             if !options.has_summary {
                 return tally.status();
             }
-            match put_summary(out, tally) {
+            match put_summary(out, options.form, tally) {
                 Ok(()) => tally.status(),
                 Err(_) => {
                     let _ = put_flush_fault(err);

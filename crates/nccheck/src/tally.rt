@@ -2,10 +2,11 @@
 
 ghost use Rattle.std.specs.Prelude.{◌≡◌, ◌+◌, ◌<◌, ◌^◌};
 ghost use Rattle.devices.specs.code.SinkWrites.{Wrote};
-ghost use Rattle.nccheck.specs.Tallies.{checked, count_text, count_words, counted, has_other_format, is_other_format, no_files, outcome_of, reported_text, status_of, summary_line, total};
+ghost use Rattle.nccheck.specs.Tallies.{checked, count_text, count_words, counted, has_other_format, is_other_format, member, no_files, outcome_of, reported_members, reported_text, status_of, summary, summary_line, summary_object, total};
 ghost use Rattle.check_lines.specs.code.Filters.{filter_for};
 
 use crate::fault::FileFault;
+use crate::options::Form;
 use check_lines::{FilterOptions, gravest};
 use devices::{Sink, WriteFailed, put, put_decimal};
 use nc_report::{Kind, Report, Severity};
@@ -176,10 +177,26 @@ fn put_count<W: Sink>(sink: &mut W, n: u128, count: SummaryCount) -> Result<(), 
     put(sink, count_words(count).as_bytes())
 }
 
+/// Writes what `-s` asks for beside this form: an object beside `-j`, otherwise a line. Needs fewer than 2^128 files in the tally. Errs if the
+/// sink fails.
+pub(crate) fn put_summary<W: Sink>(
+    sink: &mut W,
+    form: Form,
+    tally: Tally,
+) -> Result<(), WriteFailed>
+    requires { total tally < 2 ^ 128 }
+    ensures { Wrote W.view sink.old sink.new (summary form tally) result }
+{
+    match form {
+        Form::Objects => put_summary_object(sink, tally),
+        Form::Lines | Form::Paths => put_summary_line(sink, tally),
+    }
+}
+
 /// Writes the line of `-s`, such as `3 checked: 1 with errors, 0 with violations, 0 with notes, 2 with nothing to report; 7 of other
 /// formats; 0 not checked`. Needs fewer than 2^128 files in the tally. Errs if the sink fails.
 #[tactic(auto, using(devices::proofs::Writes::writes), unfolding(crate::specs::Tallies::summary_line))]
-pub(crate) fn put_summary<W: Sink>(sink: &mut W, tally: Tally) -> Result<(), WriteFailed>
+fn put_summary_line<W: Sink>(sink: &mut W, tally: Tally) -> Result<(), WriteFailed>
     requires { total tally < 2 ^ 128 }
     ensures { Wrote W.view sink.old sink.new (summary_line tally) result }
 {
@@ -199,4 +216,40 @@ fn put_reported<W: Sink>(sink: &mut W, tally: Tally) -> Result<(), WriteFailed>
     put_count(sink, tally.with_violations, SummaryCount::WithViolations)?;
     put_count(sink, tally.with_notes, SummaryCount::WithNotes)?;
     put_count(sink, tally.with_nothing, SummaryCount::WithNothing)
+}
+
+/// Writes the object of `-s`, such as `{"checked":3,"errors":1,"violations":0,"notes":0,"nothing_to_report":2,"other_formats":7,` and
+/// `"not_checked":0}`, in a line of its own. Needs fewer than 2^128 files in the tally. Errs if the sink fails.
+#[tactic(auto, using(devices::proofs::Writes::writes), unfolding(crate::specs::Tallies::summary_object))]
+fn put_summary_object<W: Sink>(sink: &mut W, tally: Tally) -> Result<(), WriteFailed>
+    requires { total tally < 2 ^ 128 }
+    ensures { Wrote W.view sink.old sink.new (summary_object tally) result }
+{
+    put_reported_members(sink, tally)?;
+    put_member(sink, b",\"nothing_to_report\":", tally.with_nothing)?;
+    put_member(sink, b",\"other_formats\":", tally.other_formats)?;
+    put_member(sink, b",\"not_checked\":", tally.not_checked)?;
+    put(sink, b"}\n")
+}
+
+/// Writes the first members of the object of `-s`: how many files were checked, and of how many something was reported. Needs fewer than
+/// 2^128 files in the tally. Errs if the sink fails.
+#[tactic(auto, using(devices::proofs::Writes::writes), unfolding(crate::specs::Tallies::reported_members))]
+fn put_reported_members<W: Sink>(sink: &mut W, tally: Tally) -> Result<(), WriteFailed>
+    requires { total tally < 2 ^ 128 }
+    ensures { Wrote W.view sink.old sink.new (reported_members tally) result }
+{
+    put_member(sink, b"{\"checked\":", tally.checked())?;
+    put_member(sink, b",\"errors\":", tally.with_errors)?;
+    put_member(sink, b",\"violations\":", tally.with_violations)?;
+    put_member(sink, b",\"notes\":", tally.with_notes)
+}
+
+/// Writes a member of an object: the text `before` its number, and the number `n`. Errs if the sink fails.
+#[tactic(auto, using(devices::proofs::Writes::writes), unfolding(crate::specs::Tallies::member))]
+fn put_member<W: Sink>(sink: &mut W, before: &[u8], n: u128) -> Result<(), WriteFailed>
+    ensures { Wrote W.view sink.old sink.new (member before.now n) result }
+{
+    put(sink, before)?;
+    put_decimal(sink, n)
 }

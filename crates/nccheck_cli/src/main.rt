@@ -1,7 +1,7 @@
-//! The program `nccheck [-q] [-s] [-0] [-l level] [-i kinds] [file ...]`: what is wrong or odd in netCDF classic files.
+//! The program `nccheck [-q] [-s] [-j] [-p] [-k] [-0] [-l level] [-i kinds] [file ...]`: what is wrong or odd in netCDF classic files.
 //!
-//! A line on standard output tells each finding, and a line on standard error each trouble. The exit status is 0 if nothing was reported,
-//! 1 if something was, and 2 after trouble.
+//! A line on standard output tells each finding, or an object or a path, as the options ask; a line on standard error tells each trouble.
+//! The exit status is 0 if nothing was reported, 1 if something was, and 2 after trouble.
 //!
 //! [`nccheck::run_with`] does all of this. This crate gives it the words of the command line, the files of the system, standard input, and
 //! standard output and standard error through buffers of a line.

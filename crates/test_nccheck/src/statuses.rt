@@ -9,12 +9,19 @@ use std::process::Abort;
 use test_files::{CLEAN, COORDINATES, Refusing, TWO_RECORDS, char_bytes, parts_of, patched};
 
 /// How the program is used.
-const USAGE: &[u8] = b"usage: nccheck [-q] [-s] [-0] [-l level] [-i kinds] [file ...]\n";
+const USAGE: &str = "usage: nccheck [-q] [-s] [-j] [-0] [-l level] [-i kinds] [file ...]
+       nccheck -p [-0] [-l level] [-i kinds] [file ...]
+       nccheck -k [-0] [file ...]
+";
 
 /// The usage, with a line an option.
-const HELP: &[u8] = b"usage: nccheck [-q] [-s] [-0] [-l level] [-i kinds] [file ...]\n  \
-    -q        write no lines of findings\n  \
+const HELP: &[u8] = b"usage: nccheck [-q] [-s] [-j] [-0] [-l level] [-i kinds] [file ...]\n       \
+    nccheck -p [-0] [-l level] [-i kinds] [file ...]\n       nccheck -k [-0] [file ...]\n  \
+    -q        write no findings\n  \
     -s        count the files in a last line\n  \
+    -j        write findings as JSON objects, one a line\n  \
+    -p        write the paths of files with findings instead, each ended by a NUL\n  \
+    -k        write the format of each file instead: nc3, nc6 or nc5\n  \
     -0        check the files too whose paths standard input has, each ended by a NUL\n  \
     -l level  report what is at least as grave: error, violation (the default) or note\n  \
     -i kinds  ignore findings of these kinds (a comma-separated list)\n  \
@@ -74,11 +81,42 @@ const RUNS: &str = r#"
 >hdf5:0: error: hdf5: magic: found 0x894844460d0a1a0a
 >2 checked: 1 with errors, 0 with violations, 0 with notes, 1 with nothing to report; 1 of other formats; 0 not checked
 
+# objects in place of lines
+2 nccheck -j -s text clean names none
+>{"file":"text","offset":0,"severity":"error","kind":"not-netcdf","path":"magic","found":"0x6e6574","expected":"0x434446"}
+>{"file":"names","offset":84,"severity":"violation","kind":"duplicate-name","path":"var[1] \"x\" name","found":"the name of number 0"}
+>{"checked":3,"errors":1,"violations":1,"notes":0,"nothing_to_report":1,"other_formats":0,"not_checked":1}
+!nccheck: none: cannot open: no such file
+
+1 nccheck -jqs -l note -i hdf5 records hdf5 hdf5
+>{"checked":1,"errors":0,"violations":0,"notes":1,"nothing_to_report":0,"other_formats":2,"not_checked":0}
+
+# the formats of files
+0 nccheck -k clean six five
+>nc3
+>nc6
+>nc5
+
+2 nccheck -k text clean four short none gzip six
+>nc3
+>nc6
+!nccheck: text: not a netCDF classic file
+!nccheck: four: not a netCDF classic file
+!nccheck: short: not a netCDF classic file
+!nccheck: none: cannot open: no such file
+!nccheck: gzip: not a netCDF classic file
+
+2 nccheck -k clean six five
+=5
+>nc3
+>nc6
+!nccheck: six: write failed
+
 0 nccheck -V
->nccheck 0.3.3
+>nccheck 0.4.0
 
 0 nccheck -x none --version -h
->nccheck 0.3.3
+>nccheck 0.4.0
 
 2 nccheck -- -V -h
 !nccheck: -V: cannot open: no such file
@@ -142,20 +180,50 @@ const LISTS: &str = r#"
 !nccheck: names: write failed
 "#;
 
-/// Words that are answered with the usage, a run a line.
-const USAGE_FAULTS: &str = "nccheck
-nccheck -l worst clean
-nccheck -q -q clean
-nccheck -i duplicate-nam,vsize names
-nccheck -i duplicate-name, names
-nccheck -i  names
-nccheck -i gap -i vsize names";
+/// Words that are misused, a run a line: how, and the words.
+const MISUSES: &str = r"no file|nccheck
+no file|nccheck -qs
+no level worst|nccheck -l worst clean
+no level q|nccheck -lq clean
+no level a\\b|nccheck -l a\b clean
+-q is given twice|nccheck -q -q clean
+-s is given twice|nccheck -qs -s -- clean
+-i is given twice|nccheck -i gap -i vsize names
+-l is given twice|nccheck -lnote clean -qlnote
+no kind duplicate-nam|nccheck -i duplicate-nam,vsize names
+no kind |nccheck -i duplicate-name, names
+no kind |nccheck -i  names
+no kind Gap|nccheck -i vsize,Gap names
+no option --foo|nccheck clean --foo -q -q
+no option -qx|nccheck -qx -l worst
+no option -q=1|nccheck -q=1 clean
+an option has no value|nccheck clean -l
+an option has no value|nccheck -i -q clean
+-p takes no -q, -s or -j beside it|nccheck -pq clean
+-p takes no -q, -s or -j beside it|nccheck -s -p clean
+-p takes no -q, -s or -j beside it|nccheck -j -l worst -p
+-k takes no option but -0 beside it|nccheck -kq clean
+-k takes no option but -0 beside it|nccheck -k -l worst clean
+-k takes no option but -0 beside it|nccheck -i gap -k clean
+-k takes no option but -0 beside it|nccheck -k -s
+-k takes no option but -0 beside it|nccheck -jk clean
+-k takes no option but -0 beside it|nccheck -kp clean";
 
 /// Other runs.
 static OTHERS: &[Run<'_>] = &[
     (&["nccheck", "-h"], ROOM, 0, HELP, b""),
     (&["nccheck", "--help"], ROOM, 0, HELP, b""),
     (&["nccheck", "-q", "-q", "-h", "-V"], ROOM, 0, HELP, b""),
+    (
+        &["nccheck", "-p", "clean", "names", "none", "records", "text"],
+        ROOM,
+        2,
+        b"names\0text\0",
+        b"nccheck: none: cannot open: no such file\n",
+    ),
+    (&["nccheck", "-pl", "error", "names", "text"], ROOM, 1, b"text\0", b""),
+    (&["nccheck", "-p", "-i", "duplicate-name", "names", "clean"], ROOM, 0, b"", b""),
+    (&["nccheck", "-p", "names"], 5, 2, b"names", b"nccheck: names: write failed\n"),
     // a path with control characters and backslashes, which are escaped, and with quotes and letters, which are not
     (
         &["nccheck", "a\t\n\x01\x7f\\\"'\u{e9}"],
@@ -196,7 +264,7 @@ const UNREAD: Input<'_> = Input {
 fn ends(alloc: Global, files: &[MemFile<'_>], run: &Run<'_>, input: Input<'_>) -> bool {
     let (words, room, status, lines, trouble) = *run;
     let mut line_space = [0; ROOM];
-    let mut trouble_space = [0; 128];
+    let mut trouble_space = [0; 512];
     let mut out = SliceSink::new(&mut line_space[..room.min(ROOM)], 7);
     let mut err = SliceSink::new(&mut trouble_space, 5);
     let ended = run_with(
@@ -269,10 +337,19 @@ fn ends_so(alloc: Global, files: &[MemFile<'_>], block: &str) -> Result<bool, Al
     Ok(ends(alloc, files, &run, Input { bytes, fails }))
 }
 
-/// Returns true if these words are answered with the usage.
-fn ends_with_usage(alloc: Global, files: &[MemFile<'_>], words: &str) -> Result<bool, AllocError> {
+/// Returns true if these words are refused as misused in this way, with the usage.
+fn ends_misused(
+    alloc: Global,
+    files: &[MemFile<'_>],
+    how: &str,
+    words: &str,
+) -> Result<bool, AllocError> {
     let words = parts_of(alloc, words, ' ')?;
-    let run = (words.as_slice(), ROOM, 2, b"".as_slice(), USAGE);
+    let mut trouble = String::new(alloc);
+    for part in ["nccheck: ", how, "\n", USAGE] {
+        trouble.push_str(part)?;
+    }
+    let run = (words.as_slice(), ROOM, 2, b"".as_slice(), trouble.as_bytes());
     Ok(ends(alloc, files, &run, UNREAD))
 }
 
@@ -283,8 +360,9 @@ fn all_end_so(rt: &impl Abort, alloc: Global, files: &[MemFile<'_>]) -> Result<(
             assert!(rt; ends_so(alloc, files, block)?, "{block}");
         }
     }
-    for words in USAGE_FAULTS.split('\n') {
-        assert!(rt; ends_with_usage(alloc, files, words)?, "{words}");
+    for row in MISUSES.split('\n') {
+        let (how, words) = row.split_once('|').unwrap_or(("", row));
+        assert!(rt; ends_misused(alloc, files, how, words)?, "{row}");
     }
     for run in OTHERS {
         assert!(rt; ends(alloc, files, run, UNREAD), "{:?}", run.0);
@@ -306,6 +384,10 @@ fn runs_end_with_their_status(rt: HostRuntime) -> Result<(), AllocError> {
         file("text", b"netcdf t {\n}\n"),
         file("hdf5", b"\x89HDF\r\n\x1a\n"),
         file("gzip", b"\x1f\x8b"),
+        file("six", b"CDF\x02"),
+        file("five", b"CDF\x05\0\0"),
+        file("four", b"CDF\x04\0\0\0\0"),
+        file("short", b"CDF"),
         file("names", names),
         file("names\\", names),
         file("records", TWO_RECORDS),

@@ -1,0 +1,68 @@
+-- Definition. Why words are no command line, and which word of them is wrong.
+use Rattle.std.specs.Prelude.{ℕ, ◌==◌, ◌+◌, ◌&&◌, ◌||◌, not, Bool, nat_lt, if◌then◌else◌, List, [], ◌∷◌, length, take, codes, Option, Some, None, find, filter}
+use Rattle.std.specs.List.{before_first, list_any}
+use Rattle.std.specs.Str.{byte, bytes_eq}
+use Rattle.nc_types.specs.Bytes.{Bytes}
+
+pub data Misuse : Type 0 where
+  -- a word that begins with a minus, and is no option
+  NoOption : Bytes → Misuse
+  -- an option of this letter
+  GivenTwice : ℕ → Misuse
+  -- an option without the value that belongs to it
+  NoValue : Misuse
+  -- `-p` beside an option that asks for another output, and `-k` beside any option but `-0`
+  NotWithPaths : Misuse
+  NotWithFormats : Misuse
+  -- the value of `-l`, and a part of that of `-i`
+  NoLevel : Bytes → Misuse
+  NoKind : Bytes → Misuse
+  NoFile : Misuse
+
+-- ---- the words that a parse refuses
+
+-- the letters of options, of which the last two have a value
+abbrev pub option_letters : Bytes
+option_letters = codes "qsjpk0li"
+
+abbrev pub is_option : ℕ → Bool
+is_option letter = list_any (λ b. b == letter) option_letters
+
+abbrev pub has_value : ℕ → Bool
+has_value letter = (letter == byte "l") || (letter == byte "i")
+
+-- the letters after the minus of a word such as `-sl`, up to one whose value follows
+abbrev pub letters_of : Bytes → Bytes
+letters_of [] = []
+letters_of (b ∷ letters) = if b == byte "-" then take (length (before_first has_value letters) + 1) letters else []
+
+-- one of them is no option's
+abbrev pub is_no_option : Bytes → Bool
+is_no_option word = list_any (λ letter. not (is_option letter)) (letters_of word)
+
+-- the first of the words before `--` that is no option
+abbrev pub first_no_option : List Bytes → Option Bytes
+first_no_option [] = None
+first_no_option (word ∷ words) =
+    if bytes_eq word (codes "--") then None
+    else if is_no_option word then Some word
+    else first_no_option words
+
+-- how often the words before `--` give the option of this letter
+abbrev pub uses : ℕ → List Bytes → ℕ
+uses letter [] = 0
+uses letter (word ∷ words) =
+    if bytes_eq word (codes "--") then 0
+    else length (filter (λ b. b == letter) (letters_of word)) + uses letter words
+
+-- the first option that is given twice
+abbrev pub first_twice : List Bytes → Option ℕ
+first_twice words = find (λ letter. nat_lt 1 (uses letter words)) option_letters
+
+-- why a parse refuses these words: one of them is no option, an option stands twice, or one has no value
+abbrev pub misuse_of : List Bytes → Misuse
+misuse_of words =
+    elim (first_no_option words) [
+      | Some word ↦ NoOption word
+      | None ↦ elim (first_twice words) [ Some letter ↦ GivenTwice letter | None ↦ NoValue ]
+    ]

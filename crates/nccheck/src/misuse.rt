@@ -1,0 +1,161 @@
+//! Why words are no command line.
+
+ghost use Rattle.std.specs.Prelude.{◌≡◌, ◌==◌, ◌+◌, filter, length, take};
+ghost use Rattle.std.specs.List.{before_first};
+ghost use Rattle.cli_base.specs.Arguments.{texts_of};
+ghost use Rattle.cli_base.specs.code.Answers.{text_of};
+ghost use Rattle.nccheck.specs.Misuse.{first_no_option, first_twice, has_value, is_no_option, is_option, letters_of, misuse_of, uses};
+ghost use Rattle.nccheck.specs.code.Misuses.{told};
+ghost use Rattle.nccheck.specs.declared.misuse.CommandFault.TheVariants.{Misused, OutOfMemory as out_of_memory};
+
+use std::alloc::AllocError;
+
+/// Why words are no command line.
+#[derive(Clone, Copy, Debug)]
+pub enum Misuse<'a> {
+    /// This word begins with a minus, and is no option.
+    NoOption(&'a str),
+    /// The option of this letter is given twice.
+    GivenTwice(u8),
+    /// An option lacks its value.
+    NoValue,
+    /// `-q`, `-s` or `-j` stands beside `-p`.
+    NotWithPaths,
+    /// Another option than `-0` stands beside `-k`.
+    NotWithFormats,
+    /// This value of `-l` is no level.
+    NoLevel(&'a str),
+    /// This part of the value of `-i` is no kind of findings.
+    NoKind(&'a str),
+    /// No file is named.
+    NoFile,
+}
+
+/// Why a command line could not be read.
+#[derive(Clone, Copy, Debug)]
+pub enum CommandFault<'a> {
+    /// An allocation failed.
+    OutOfMemory,
+    /// The words are no command line.
+    Misused(Misuse<'a>),
+}
+
+impl<'a> From<AllocError> for CommandFault<'a> {
+    ghost from_gives = { λ _ e. e ≡ out_of_memory };
+
+    /// Turns a failed allocation into [`CommandFault::OutOfMemory`], for the `?` after a call that allocates.
+    fn from(_refusal: AllocError) -> CommandFault<'a> {
+        CommandFault::OutOfMemory
+    }
+}
+
+impl<'a> From<Misuse<'a>> for CommandFault<'a> {
+    ghost from_gives = { λ why e. e ≡ Misused why };
+
+    /// Turns a misuse into [`CommandFault::Misused`], for the `?` after what reads a part of the words.
+    fn from(why: Misuse<'a>) -> CommandFault<'a> {
+        CommandFault::Misused(why)
+    }
+}
+
+/// The letters of the options. The last two have a value.
+const OPTION_LETTERS: &[u8] = b"qsjpk0li";
+
+/// Returns why a parse refuses these words: the first word that is no option, or else the first letter that stands twice, or else an
+/// option without its value.
+pub(crate) fn misuse_of<'a>(words: &[&'a str]) -> Misuse<'a>
+    ensures { told result ≡ misuse_of (texts_of words.now) }
+{
+    match (first_no_option(words), first_twice(words)) {
+        (Some(word), _) => Misuse::NoOption(word),
+        (None, Some(letter)) => Misuse::GivenTwice(letter),
+        (None, None) => Misuse::NoValue,
+    }
+}
+
+/// Returns the first of the words before `--` that begins with a minus and has a letter that is no option's.
+fn first_no_option<'a>(words: &[&'a str]) -> Option<&'a str>
+    ensures { text_of result ≡ first_no_option (texts_of words.now) }
+{
+    for word in words {
+        if *word == "--" {
+            return None;
+        }
+        if is_no_option(word) {
+            return Some(*word);
+        }
+    }
+    None
+}
+
+/// Returns the first letter of an option that stands twice in the words before `--`.
+fn first_twice(words: &[&str]) -> Option<u8>
+    ensures { result ≡ first_twice (texts_of words.now) }
+{
+    OPTION_LETTERS
+        .iter()
+        .copied()
+        .find(|letter| uses(*letter, words) > 1)
+}
+
+/// Returns how often the words before `--` give the option of this letter.
+fn uses(letter: u8, words: &[&str]) -> u128
+    ensures { result ≡ uses letter (texts_of words.now) }
+{
+    let mut total = 0;
+    for word in words {
+        if *word == "--" {
+            return total;
+        }
+        total += uses_in(letter, letters_of(word)) as u128;
+    }
+    total
+}
+
+/// Returns how often the letter is among these.
+fn uses_in(letter: u8, letters: &[u8]) -> usize
+    ensures { result ≡ length (filter (λ b. b == letter) letters.now) }
+{
+    letters.iter().filter(|b| **b == letter).count()
+}
+
+/// Returns true if the word has the letter of an option that isn't there.
+fn is_no_option(word: &str) -> bool
+    ensures { result ≡ is_no_option word.now }
+{
+    letters_of(word).iter().any(|letter| !is_option(*letter))
+}
+
+/// Returns true if an option has this letter.
+fn is_option(letter: u8) -> bool
+    ensures { result ≡ is_option letter }
+{
+    OPTION_LETTERS.iter().any(|b| *b == letter)
+}
+
+/// Returns the letters of the options that a word gives: those after its minus, up to one whose value follows in the word.
+fn letters_of(word: &str) -> &[u8]
+    ensures { result.now ≡ letters_of word.now }
+{
+    match word.as_bytes() {
+        [b'-', letters @ ..] => up_to_value(letters),
+        _ => &[],
+    }
+}
+
+/// Returns the letters up to the first that has a value, and all of them if none has.
+fn up_to_value(letters: &[u8]) -> &[u8]
+    ensures { result.now ≡ take (length (before_first has_value letters.now) + 1) letters.now }
+{
+    match letters.iter().position(|letter| has_value(*letter)) {
+        Some(i) => &letters[..i + 1],
+        None => letters,
+    }
+}
+
+/// Returns true if an option of this letter has a value.
+fn has_value(letter: u8) -> bool
+    ensures { result ≡ has_value letter }
+{
+    letter == b'l' || letter == b'i'
+}
