@@ -1,5 +1,5 @@
 -- What the whole command line reads.
-use Rattle.nccheck.proofs.Prelude.{Row, fault_of, is_simple, is_simple_and_free, matches_of, asked_by, asked_in, nccheck, asked_for, Asked, ℕ, true, List, [], ◌∷◌, Result, Ok, Err, ◌≡◌, ◌∙◌, refl, sym, ap, inl, inr, ◌⊎◌}
+use Rattle.nccheck.proofs.Prelude.{Row, fault_of, is_simple, is_simple_and_free, matches_of, asked_by, asked_in, nccheck, asked_for, Asked, ℕ, true, List, [], ◌∷◌, Result, Err, ◌≡◌, ◌∙◌, refl, ap, inl, inr, ◌⊎◌}
 use Rattle.clap.specs.Kinds.{IsAmong, Kinds}
 use Rattle.clap.specs.declared.error.kind.ErrorKind.{ErrorKind}
 use Rattle.clap.proofs.OnLiterals.{clap_on_literals}

@@ -3,3 +3,4 @@ pub mod CommandLines
 pub mod InTurn
 pub mod Listing
 pub mod Openings
+pub mod Formats

@@ -1,5 +1,5 @@
 -- Definition. What the words of the command line ask for.
-use Rattle.std.specs.Prelude.{ℕ, ◌==◌, ◌&&◌, ◌||◌, not, Bool, true, false, List, [], ◌∷◌, codes, Option, Some, None, is_some, unwrap_or, find, fold, if◌then◌else◌, Result, Ok, Err}
+use Rattle.std.specs.Prelude.{ℕ, ◌==◌, ◌&&◌, ◌||◌, not, Bool, true, false, List, [], ◌∷◌, codes, Option, Some, None, is_some, find, fold, if◌then◌else◌, Result, Ok, Err}
 use Rattle.std.specs.List.{list_any, slice_split}
 use Rattle.std.specs.Str.{byte, bytes_eq}
 use Rattle.clap.specs.Words.{App, Kinds, Row, Rule, all_of, fault_of, first_of, matches_of, new_app, new_rule, with_rule}
@@ -109,7 +109,7 @@ asked_in rows =
     if is_given rows (codes "formats") && asks_of_findings rows then Err NotWithFormats
     else if is_given rows (codes "paths") && changes_output rows then Err NotWithPaths
     else asked_with rows (level_in (first_of (codes "level") rows)) (ignored_in (first_of (codes "ignored") rows))
-      (files_in (is_given rows (codes "list")) (all_of (codes "file") rows))
+    (files_in (is_given rows (codes "list")) (all_of (codes "file") rows))
 
 -- what is asked for, if a parse has no fault
 abbrev pub if_faultless : Kinds → Misuse → Result Asked Misuse → Result Asked Misuse

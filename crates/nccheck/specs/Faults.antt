@@ -64,22 +64,33 @@ usage_lines =
 unfoldable pub memory_line : Bytes
 memory_line = codes "nccheck: out of memory\n"
 
+unfoldable pub utf8_line : Bytes
+utf8_line = codes "nccheck: an argument is not UTF-8: give paths by -0\n"
+
 -- before the words are read: memory has run out, or an argument isn't UTF-8
 unfoldable pub opt_fault_lines : OptFault → Bytes
 opt_fault_lines opt.OutOfMemory = memory_line
-opt_fault_lines opt.Usage = concat_parts (codes "nccheck: an argument is not UTF-8: give paths by -0\n" ∷ usage_lines ∷ [])
+opt_fault_lines opt.Usage = concat_parts (utf8_line ∷ usage_lines ∷ [])
 
+-- what is said of a misuse, beside the word or the letter that is wrong
 unfoldable pub misuse_words : Misuse → Bytes
-misuse_words (NoOption word) = concat_parts (codes "no option " ∷ shown_path word ∷ [])
-misuse_words (GivenTwice letter) = concat_parts (codes "-" ∷ (letter ∷ []) ∷ codes " is given twice" ∷ [])
+misuse_words (NoOption word) = codes "no option "
+misuse_words (GivenTwice letter) = codes " is given twice"
 misuse_words NoValue = codes "an option has no value"
 misuse_words NotWithPaths = codes "-p takes no -q, -s or -j beside it"
 misuse_words NotWithFormats = codes "-k takes no option but -0 beside it"
-misuse_words (NoLevel word) = concat_parts (codes "no level " ∷ shown_path word ∷ [])
-misuse_words (NoKind word) = concat_parts (codes "no kind " ∷ shown_path word ∷ [])
+misuse_words (NoLevel word) = codes "no level "
+misuse_words (NoKind word) = codes "no kind "
 misuse_words NoFile = codes "no file"
+
+unfoldable pub misuse_text : Misuse → Bytes
+misuse_text (NoOption word) = concat_parts (misuse_words (NoOption word) ∷ shown_path word ∷ [])
+misuse_text (GivenTwice letter) = concat_parts (codes "-" ∷ (letter ∷ []) ∷ misuse_words (GivenTwice letter) ∷ [])
+misuse_text (NoLevel word) = concat_parts (misuse_words (NoLevel word) ∷ shown_path word ∷ [])
+misuse_text (NoKind word) = concat_parts (misuse_words (NoKind word) ∷ shown_path word ∷ [])
+misuse_text misuse = misuse_words misuse
 
 -- how the words are misused, and the usage; or memory has run out
 unfoldable pub refusal_lines : Option Misuse → Bytes
 refusal_lines None = memory_line
-refusal_lines (Some misuse) = concat_parts (codes "nccheck: " ∷ misuse_words misuse ∷ codes "\n" ∷ usage_lines ∷ [])
+refusal_lines (Some misuse) = concat_parts (codes "nccheck: " ∷ misuse_text misuse ∷ codes "\n" ∷ usage_lines ∷ [])

@@ -1,6 +1,6 @@
 -- Definition. Why words are no command line, and which word of them is wrong.
-use Rattle.std.specs.Prelude.{ℕ, ◌==◌, ◌+◌, ◌&&◌, ◌||◌, not, Bool, nat_lt, if◌then◌else◌, List, [], ◌∷◌, length, take, codes, Option, Some, None, find, filter}
-use Rattle.std.specs.List.{before_first, list_any}
+use Rattle.std.specs.Prelude.{ℕ, ◌==◌, ◌+◌, ◌&&◌, ◌||◌, not, Bool, false, nat_lt, if◌then◌else◌, List, [], ◌∷◌, codes, Option, Some, None, find}
+use Rattle.std.specs.List.{list_any}
 use Rattle.std.specs.Str.{byte, bytes_eq}
 use Rattle.nc_types.specs.Bytes.{Bytes}
 
@@ -31,33 +31,37 @@ is_option letter = list_any (λ b. b == letter) option_letters
 abbrev pub has_value : ℕ → Bool
 has_value letter = (letter == byte "l") || (letter == byte "i")
 
--- the letters after the minus of a word such as `-sl`, up to one whose value follows
+-- the letters after the minus of a word such as `-sl`
 abbrev pub letters_of : Bytes → Bytes
 letters_of [] = []
-letters_of (b ∷ letters) = if b == byte "-" then take (length (before_first has_value letters) + 1) letters else []
+letters_of (b ∷ letters) = if b == byte "-" then letters else []
 
--- one of them is no option's
-abbrev pub is_no_option : Bytes → Bool
-is_no_option word = list_any (λ letter. not (is_option letter)) (letters_of word)
+-- one of these letters is no option's; after a letter that has a value, the value follows
+abbrev pub has_other : Bytes → Bool
+has_other [] = false
+has_other (letter ∷ letters) = not (is_option letter) || (not (has_value letter) && has_other letters)
 
 -- the first of the words before `--` that is no option
 abbrev pub first_no_option : List Bytes → Option Bytes
 first_no_option [] = None
 first_no_option (word ∷ words) =
     if bytes_eq word (codes "--") then None
-    else if is_no_option word then Some word
+    else if has_other (letters_of word) then Some word
     else first_no_option words
 
--- how often the words before `--` give the option of this letter
+-- how often these letters give the option of this one
+abbrev pub uses_in : ℕ → Bytes → ℕ
+uses_in x [] = 0
+uses_in x (letter ∷ letters) = (if letter == x then 1 else 0) + (if has_value letter then 0 else uses_in x letters)
+
+-- and the words before `--`
 abbrev pub uses : ℕ → List Bytes → ℕ
-uses letter [] = 0
-uses letter (word ∷ words) =
-    if bytes_eq word (codes "--") then 0
-    else length (filter (λ b. b == letter) (letters_of word)) + uses letter words
+uses x [] = 0
+uses x (word ∷ words) = if bytes_eq word (codes "--") then 0 else uses_in x (letters_of word) + uses x words
 
 -- the first option that is given twice
 abbrev pub first_twice : List Bytes → Option ℕ
-first_twice words = find (λ letter. nat_lt 1 (uses letter words)) option_letters
+first_twice words = find (λ x. nat_lt 1 (uses x words)) option_letters
 
 -- why a parse refuses these words: one of them is no option, an option stands twice, or one has no value
 abbrev pub misuse_of : List Bytes → Misuse

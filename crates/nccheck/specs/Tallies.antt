@@ -93,24 +93,32 @@ unfoldable pub summary_line : Tally → Bytes
 summary_line t = concat_parts (
     count_text (checked t) Checked ∷ reported_text t ∷ count_text t.other_formats OtherFormats ∷ count_text t.not_checked NotChecked ∷ [])
 
--- a member of an object: the text before its number, and the number
-unfoldable pub member : Bytes → ℕ → Bytes
-member before n = concat_parts (before ∷ decimal n ∷ [])
+-- the text before a count in the object of `-s` beside `-j`
+unfoldable pub member_words : SummaryCount → Bytes
+member_words Checked = codes "{\"checked\":"
+member_words WithErrors = codes ",\"errors\":"
+member_words WithViolations = codes ",\"violations\":"
+member_words WithNotes = codes ",\"notes\":"
+member_words WithNothing = codes ",\"nothing_to_report\":"
+member_words OtherFormats = codes ",\"other_formats\":"
+member_words NotChecked = codes ",\"not_checked\":"
 
--- the object of `-s` beside `-j`, in a line of its own
+unfoldable pub member_text : ℕ → SummaryCount → Bytes
+member_text n count = concat_parts (member_words count ∷ decimal n ∷ [])
+
 unfoldable pub reported_members : Tally → Bytes
 reported_members t = concat_parts (
-    member (codes "{\"checked\":") (checked t) ∷
-    member (codes ",\"errors\":") t.with_errors ∷
-    member (codes ",\"violations\":") t.with_violations ∷
-    member (codes ",\"notes\":") t.with_notes ∷ [])
+    member_text t.with_errors WithErrors ∷
+    member_text t.with_violations WithViolations ∷
+    member_text t.with_notes WithNotes ∷
+    member_text t.with_nothing WithNothing ∷ [])
 
 unfoldable pub summary_object : Tally → Bytes
 summary_object t = concat_parts (
+    member_text (checked t) Checked ∷
     reported_members t ∷
-    member (codes ",\"nothing_to_report\":") t.with_nothing ∷
-    member (codes ",\"other_formats\":") t.other_formats ∷
-    member (codes ",\"not_checked\":") t.not_checked ∷ codes "}\n" ∷ [])
+    member_text t.other_formats OtherFormats ∷
+    member_text t.not_checked NotChecked ∷ codes "}\n" ∷ [])
 
 -- beside `-p` there is no `-s`
 abbrev pub summary : Form → Tally → Bytes

@@ -1,10 +1,8 @@
 //! The line of each trouble, on standard error.
 
-ghost use Rattle.std.specs.Prelude.{◌≡◌, [], ◌∷◌};
-ghost use Rattle.nc_types.specs.Bytes.{concat_parts};
-ghost use Rattle.check_lines.specs.Shown.{shown_path};
+ghost use Rattle.std.specs.Prelude.{◌≡◌};
 ghost use Rattle.devices.specs.code.SinkWrites.{Wrote};
-ghost use Rattle.nccheck.specs.Faults.{fault_words, file_line, flush_line, memory_line, misuse_words, open_words, opt_fault_lines, path_words, refusal_lines, usage_lines};
+ghost use Rattle.nccheck.specs.Faults.{fault_words, file_line, flush_line, memory_line, misuse_text, misuse_words, open_words, opt_fault_lines, path_words, refusal_lines, usage_lines, utf8_line};
 ghost use Rattle.nccheck.specs.code.Misuses.{misuse_in, told};
 
 use crate::fault::{FileFault, PathFault};
@@ -99,7 +97,7 @@ pub fn put_command_line_fault<W: Sink>(sink: &mut W, fault: OptFault) -> Result<
     match fault {
         OptFault::OutOfMemory => put(sink, memory_line()),
         OptFault::Usage => {
-            put(sink, b"nccheck: an argument is not UTF-8: give paths by -0\n")?;
+            put(sink, utf8_line())?;
             put(sink, usage_lines())
         }
     }
@@ -109,7 +107,7 @@ pub fn put_command_line_fault<W: Sink>(sink: &mut W, fault: OptFault) -> Result<
 /// the sink fails.
 #[tactic(auto, using(devices::proofs::Writes::writes), unfolding(crate::specs::Faults::refusal_lines))]
 pub(crate) fn put_refusal<W: Sink>(sink: &mut W, fault: CommandFault<'_>) -> Result<(), WriteFailed>
-    ensures { Wrote W.view sink.old sink.new (refusal_lines (misuse_in fault)) result }
+    ensures { Wrote W.view sink.old sink.new (refusal_lines (misuse_in fault.entry)) result }
 {
     match fault {
         CommandFault::OutOfMemory => put(sink, memory_line()),
@@ -122,35 +120,48 @@ pub(crate) fn put_refusal<W: Sink>(sink: &mut W, fault: CommandFault<'_>) -> Res
     }
 }
 
-/// Writes the words that say how a command line is misused, such as `no level warn`. Errs if the sink fails.
-#[tactic(auto, using(devices::proofs::Writes::writes), unfolding(crate::specs::Faults::misuse_words))]
+/// Writes how a command line is misused, such as `no level warn`. Errs if the sink fails.
+#[tactic(auto, using(devices::proofs::Writes::writes), unfolding(crate::specs::Faults::misuse_text))]
 fn put_misuse<W: Sink>(sink: &mut W, why: Misuse<'_>) -> Result<(), WriteFailed>
-    ensures { Wrote W.view sink.old sink.new (misuse_words (told why)) result }
+    ensures { Wrote W.view sink.old sink.new (misuse_text (told why.entry)) result }
 {
     match why {
-        Misuse::NoOption(word) => put_with_word(sink, b"no option ", word),
+        Misuse::NoOption(word) | Misuse::NoLevel(word) | Misuse::NoKind(word) => {
+            put(sink, misuse_words(why))?;
+            put_file_path(sink, word.as_bytes())
+        }
         Misuse::GivenTwice(letter) => {
             put(sink, b"-")?;
             put(sink, &[letter])?;
-            put(sink, b" is given twice")
+            put(sink, misuse_words(why))
         }
-        Misuse::NoValue => put(sink, b"an option has no value"),
-        Misuse::NotWithPaths => put(sink, b"-p takes no -q, -s or -j beside it"),
-        Misuse::NotWithFormats => put(sink, b"-k takes no option but -0 beside it"),
-        Misuse::NoLevel(word) => put_with_word(sink, b"no level ", word),
-        Misuse::NoKind(word) => put_with_word(sink, b"no kind ", word),
-        Misuse::NoFile => put(sink, b"no file"),
+        _ => put(sink, misuse_words(why)),
     }
 }
 
-/// Writes `words`, and then a word of the command line as [`put_file_path`] shows it. Errs if the sink fails.
-#[tactic(auto, using(devices::proofs::Writes::writes))]
-fn put_with_word<W: Sink>(sink: &mut W, words: &[u8], word: &str) -> Result<(), WriteFailed>
-    ensures { Wrote W.view sink.old sink.new
-        (concat_parts (words.now ∷ shown_path word.now ∷ [])) result }
+/// Returns what is said of a misuse, beside the word or the letter that is wrong.
+#[tactic(auto, unfolding(crate::specs::Faults::misuse_words))]
+fn misuse_words(why: Misuse<'_>) -> &'static [u8]
+    ensures { result.now ≡ misuse_words (told why.entry) }
 {
-    put(sink, words)?;
-    put_file_path(sink, word.as_bytes())
+    match why {
+        Misuse::NoOption(_) => b"no option ",
+        Misuse::GivenTwice(_) => b" is given twice",
+        Misuse::NoValue => b"an option has no value",
+        Misuse::NotWithPaths => b"-p takes no -q, -s or -j beside it",
+        Misuse::NotWithFormats => b"-k takes no option but -0 beside it",
+        Misuse::NoLevel(_) => b"no level ",
+        Misuse::NoKind(_) => b"no kind ",
+        Misuse::NoFile => b"no file",
+    }
+}
+
+/// Returns the line that says that a word isn't UTF-8.
+#[tactic(auto, unfolding(crate::specs::Faults::utf8_line))]
+fn utf8_line() -> &'static [u8]
+    ensures { result.now ≡ utf8_line }
+{
+    b"nccheck: an argument is not UTF-8: give paths by -0\n"
 }
 
 /// Returns the line of memory that has run out, apart from any file.

@@ -2,6 +2,7 @@
 
 ghost use Rattle.std.specs.Prelude.{◌≡◌};
 ghost use Rattle.std.specs.Bool.{OnTrue};
+ghost use Rattle.nc_window.specs.code.Window.{Caused};
 ghost use Rattle.nccheck.specs.Formats.{format_line, format_of};
 ghost use Rattle.nccheck.specs.Runs.{TellsFormat, WriteFailsOnly};
 ghost use Rattle.nccheck.specs.code.OpenedFiles.{ReadsOpened, StartsWith};
@@ -10,7 +11,7 @@ use crate::fault::FileFault;
 use crate::tally::Outcome;
 use devices::{Sink, Source, put};
 use nc_base::Version;
-use nc_window::Window;
+use nc_window::{HeadFault, Window};
 
 /// Writes a line for the format of the file that `source` reads: `nc3`, `nc6` or `nc5`. Errs with `NotClassic` if the file doesn't begin
 /// with `CDF` and 1, 2 or 5, and with `ReadFailed` if the source fails, before it has written anything; with `WriteFailed` if `out` fails.
@@ -29,14 +30,14 @@ pub(crate) fn tell_format<S: Source, O: Sink>(
     Ok(Outcome::NothingReported)
 }
 
-/// Returns the first four bytes of the file that `source` reads. Errs with `NotClassic` if it has fewer, and with `ReadFailed` if the source
-/// fails.
-fn first_bytes<S: Source>(source: &mut S) -> Result<[u8; 4], FileFault>
-    ensures reads { ReadsOpened (S.view source.old).failures (S.view source.new).failures result }
+/// Returns the first four bytes of the file that `source` reads. Errs with a fault of the format if it has fewer, and with `ReadFailed` if
+/// the source fails.
+fn first_bytes<S: Source>(source: &mut S) -> Result<[u8; 4], HeadFault>
+    ensures cause { Caused (S.view source.old).failures (S.view source.new) result }
     ensures bytes { OnTrue S.is_transparent (StartsWith (S.view source.old).bytes result) }
 {
     let mut buf = [0u8; 4];
-    Ok(Window::new(source, &mut buf).array()?)
+    Window::new(source, &mut buf).array()
 }
 
 /// Returns the format of a file that begins with these bytes, or `None` for another file.

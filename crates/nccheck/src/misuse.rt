@@ -1,10 +1,9 @@
 //! Why words are no command line.
 
-ghost use Rattle.std.specs.Prelude.{◌≡◌, ◌==◌, ◌+◌, filter, length, take};
-ghost use Rattle.std.specs.List.{before_first};
+ghost use Rattle.std.specs.Prelude.{◌≡◌};
 ghost use Rattle.cli_base.specs.Arguments.{texts_of};
 ghost use Rattle.cli_base.specs.code.Answers.{text_of};
-ghost use Rattle.nccheck.specs.Misuse.{first_no_option, first_twice, has_value, is_no_option, is_option, letters_of, misuse_of, uses};
+ghost use Rattle.nccheck.specs.Misuse.{first_no_option, first_twice, has_other, has_value, is_option, letters_of, misuse_of, uses, uses_in};
 ghost use Rattle.nccheck.specs.code.Misuses.{told};
 ghost use Rattle.nccheck.specs.declared.misuse.CommandFault.TheVariants.{Misused, OutOfMemory as out_of_memory};
 
@@ -81,7 +80,7 @@ fn first_no_option<'a>(words: &[&'a str]) -> Option<&'a str>
         if *word == "--" {
             return None;
         }
-        if is_no_option(word) {
+        if has_other(letters_of(word)) {
             return Some(*word);
         }
     }
@@ -112,18 +111,35 @@ fn uses(letter: u8, words: &[&str]) -> u128
     total
 }
 
-/// Returns how often the letter is among these.
-fn uses_in(letter: u8, letters: &[u8]) -> usize
-    ensures { result ≡ length (filter (λ b. b == letter) letters.now) }
+/// Returns how often these letters give the option of the letter `x`. After a letter that has a value, the value follows.
+fn uses_in(x: u8, letters: &[u8]) -> usize
+    ensures { result ≡ uses_in x letters.now }
 {
-    letters.iter().filter(|b| **b == letter).count()
+    let mut total = 0;
+    for letter in letters {
+        if *letter == x {
+            total += 1;
+        }
+        if has_value(*letter) {
+            return total;
+        }
+    }
+    total
 }
 
-/// Returns true if the word has the letter of an option that isn't there.
-fn is_no_option(word: &str) -> bool
-    ensures { result ≡ is_no_option word.now }
+/// Returns true if one of these letters is no option's. After a letter that has a value, the value follows.
+fn has_other(letters: &[u8]) -> bool
+    ensures { result ≡ has_other letters.now }
 {
-    letters_of(word).iter().any(|letter| !is_option(*letter))
+    for letter in letters {
+        if !is_option(*letter) {
+            return true;
+        }
+        if has_value(*letter) {
+            return false;
+        }
+    }
+    false
 }
 
 /// Returns true if an option has this letter.
@@ -133,23 +149,13 @@ fn is_option(letter: u8) -> bool
     OPTION_LETTERS.iter().any(|b| *b == letter)
 }
 
-/// Returns the letters of the options that a word gives: those after its minus, up to one whose value follows in the word.
+/// Returns the letters after the minus of a word, or none if it doesn't begin with one.
 fn letters_of(word: &str) -> &[u8]
     ensures { result.now ≡ letters_of word.now }
 {
     match word.as_bytes() {
-        [b'-', letters @ ..] => up_to_value(letters),
+        [b'-', letters @ ..] => letters,
         _ => &[],
-    }
-}
-
-/// Returns the letters up to the first that has a value, and all of them if none has.
-fn up_to_value(letters: &[u8]) -> &[u8]
-    ensures { result.now ≡ take (length (before_first has_value letters.now) + 1) letters.now }
-{
-    match letters.iter().position(|letter| has_value(*letter)) {
-        Some(i) => &letters[..i + 1],
-        None => letters,
     }
 }
 

@@ -2,7 +2,7 @@
 
 ghost use Rattle.std.specs.Prelude.{◌≡◌, ◌+◌, ◌<◌, ◌^◌};
 ghost use Rattle.devices.specs.code.SinkWrites.{Wrote};
-ghost use Rattle.nccheck.specs.Tallies.{checked, count_text, count_words, counted, has_other_format, is_other_format, member, no_files, outcome_of, reported_members, reported_text, status_of, summary, summary_line, summary_object, total};
+ghost use Rattle.nccheck.specs.Tallies.{checked, count_text, count_words, counted, has_other_format, is_other_format, member_text, member_words, no_files, outcome_of, reported_members, reported_text, status_of, summary, summary_line, summary_object, total};
 ghost use Rattle.check_lines.specs.code.Filters.{filter_for};
 
 use crate::fault::FileFault;
@@ -218,6 +218,31 @@ fn put_reported<W: Sink>(sink: &mut W, tally: Tally) -> Result<(), WriteFailed>
     put_count(sink, tally.with_nothing, SummaryCount::WithNothing)
 }
 
+/// Returns the text before a number in the object of `-s`, such as `,"errors":`.
+#[tactic(auto, unfolding(crate::specs::Tallies::member_words))]
+fn member_words(count: SummaryCount) -> &'static str
+    ensures { result.now ≡ member_words count }
+{
+    match count {
+        SummaryCount::Checked => "{\"checked\":",
+        SummaryCount::WithErrors => ",\"errors\":",
+        SummaryCount::WithViolations => ",\"violations\":",
+        SummaryCount::WithNotes => ",\"notes\":",
+        SummaryCount::WithNothing => ",\"nothing_to_report\":",
+        SummaryCount::OtherFormats => ",\"other_formats\":",
+        SummaryCount::NotChecked => ",\"not_checked\":",
+    }
+}
+
+/// Writes the words that say what a number counts in the object of `-s`, and the number `n`. Errs if the sink fails.
+#[tactic(auto, using(devices::proofs::Writes::writes), unfolding(crate::specs::Tallies::member_text))]
+fn put_member<W: Sink>(sink: &mut W, n: u128, count: SummaryCount) -> Result<(), WriteFailed>
+    ensures { Wrote W.view sink.old sink.new (member_text n count) result }
+{
+    put(sink, member_words(count).as_bytes())?;
+    put_decimal(sink, n)
+}
+
 /// Writes the object of `-s`, such as `{"checked":3,"errors":1,"violations":0,"notes":0,"nothing_to_report":2,"other_formats":7,` and
 /// `"not_checked":0}`, in a line of its own. Needs fewer than 2^128 files in the tally. Errs if the sink fails.
 #[tactic(auto, using(devices::proofs::Writes::writes), unfolding(crate::specs::Tallies::summary_object))]
@@ -225,31 +250,21 @@ fn put_summary_object<W: Sink>(sink: &mut W, tally: Tally) -> Result<(), WriteFa
     requires { total tally < 2 ^ 128 }
     ensures { Wrote W.view sink.old sink.new (summary_object tally) result }
 {
+    put_member(sink, tally.checked(), SummaryCount::Checked)?;
     put_reported_members(sink, tally)?;
-    put_member(sink, b",\"nothing_to_report\":", tally.with_nothing)?;
-    put_member(sink, b",\"other_formats\":", tally.other_formats)?;
-    put_member(sink, b",\"not_checked\":", tally.not_checked)?;
+    put_member(sink, tally.other_formats, SummaryCount::OtherFormats)?;
+    put_member(sink, tally.not_checked, SummaryCount::NotChecked)?;
     put(sink, b"}\n")
 }
 
-/// Writes the first members of the object of `-s`: how many files were checked, and of how many something was reported. Needs fewer than
-/// 2^128 files in the tally. Errs if the sink fails.
+/// Writes a part of the object of `-s`: of how many of the checked files something was reported, and of how many nothing. Errs if the sink
+/// fails.
 #[tactic(auto, using(devices::proofs::Writes::writes), unfolding(crate::specs::Tallies::reported_members))]
 fn put_reported_members<W: Sink>(sink: &mut W, tally: Tally) -> Result<(), WriteFailed>
-    requires { total tally < 2 ^ 128 }
     ensures { Wrote W.view sink.old sink.new (reported_members tally) result }
 {
-    put_member(sink, b"{\"checked\":", tally.checked())?;
-    put_member(sink, b",\"errors\":", tally.with_errors)?;
-    put_member(sink, b",\"violations\":", tally.with_violations)?;
-    put_member(sink, b",\"notes\":", tally.with_notes)
-}
-
-/// Writes a member of an object: the text `before` its number, and the number `n`. Errs if the sink fails.
-#[tactic(auto, using(devices::proofs::Writes::writes), unfolding(crate::specs::Tallies::member))]
-fn put_member<W: Sink>(sink: &mut W, before: &[u8], n: u128) -> Result<(), WriteFailed>
-    ensures { Wrote W.view sink.old sink.new (member before.now n) result }
-{
-    put(sink, before)?;
-    put_decimal(sink, n)
+    put_member(sink, tally.with_errors, SummaryCount::WithErrors)?;
+    put_member(sink, tally.with_violations, SummaryCount::WithViolations)?;
+    put_member(sink, tally.with_notes, SummaryCount::WithNotes)?;
+    put_member(sink, tally.with_nothing, SummaryCount::WithNothing)
 }
