@@ -1,11 +1,11 @@
--- Definition. What a line says of what is found, and of what is expected in its place: the message of each fact.
-use Rattle.std.specs.Prelude.{ℕ, ◌-◌, ◌^◌, ◌==◌, ◌&&◌, Bool, true, false, nat_lt, if◌then◌else◌, List, [], ◌∷◌, length, codes, Option, Some, None, slice_get}
+-- Definition. What is said of what is found, and of what is expected in its place: the message of each fact.
+use Rattle.std.specs.Prelude.{ℕ, ◌-◌, ◌^◌, ◌==◌, ◌&&◌, Bool, true, false, nat_lt, if◌then◌else◌, List, length, codes, Option, Some, None, slice_get}
 use Rattle.std.specs.Option.{option_map_or}
 use Rattle.nc_types.specs.Bytes.{Bytes}
 use Rattle.nc_base.specs.declared.fault.FormatFault.{FormatFault}
 use Rattle.nc_base.specs.declared.fault.FormatFault.TheVariants as fault
 use Rattle.nc_base.specs.Grammar.{attribute_tag, dimension_tag, variable_tag}
-use Rattle.nc_findings.specs.declared.{listing.Listing.Listing, place.Owner.Owner, place.FieldKind.FieldKind, entry.Entry.Entry}
+use Rattle.nc_findings.specs.declared.{listing.Listing.Listing, place.Owner.Owner, place.FieldKind.FieldKind, entry.Content.Content, entry.Entry.Entry}
 use Rattle.nc_findings.specs.declared.place.Owner.TheVariants as owner
 use Rattle.nc_findings.specs.declared.place.FieldKind.TheVariants as field
 use Rattle.nc_findings.specs.declared.entry.Content.TheVariants as content
@@ -17,7 +17,15 @@ use Rattle.nc_findings.specs.declared.finding.Fact.{Fact}
 use Rattle.nc_findings.specs.declared.finding.Fact.TheVariants as fact
 use Rattle.nc_findings.specs.Limits.{highest_rank, large_count, longest_name}
 use Rattle.check_lines.specs.declared.message.Part.TheVariants.{Number, Long, TypeCode, FieldContent, FieldType, FieldZeros, OfBlock}
-use Rattle.check_lines.specs.Messages.{Message, message_text, says}
+use Rattle.check_lines.specs.Messages.{Message, nothing, found, instead, Said, words, with, with_both, expected_text, found_text}
+
+-- a number alone
+abbrev pub number : ℕ → Said
+number n = with (codes "_") (Number n)
+
+-- the content of the field alone
+abbrev pub field_content : Said
+field_content = with (codes "_") FieldContent
 
 -- ---- fields at which reading stops
 
@@ -51,51 +59,47 @@ is_list_count field = false
 abbrev pub is_after_zero_tag : List Entry → FieldKind → Bool
 is_after_zero_tag entries field = is_list_count field && (number_of_field entries (length entries - 2) == 0)
 
-abbrev pub below : ℕ → Message
-below limit = says (codes ": found _, expected below _") (FieldContent ∷ Number limit ∷ [])
-
 abbrev pub fault_message : Listing → Entry → FormatFault → Message
-fault_message l e fault.NotNetcdf = says (codes ": found _, expected 0x434446") (FieldContent ∷ [])
-fault_message l e (fault.UnknownVersion version) = says (codes ": found _, expected 1, 2 or 5") (FieldContent ∷ [])
-fault_message l e fault.HeaderTruncated = says (codes ": found _, expected _ bytes") (Number (l.file_len - e.offset) ∷ Long e.size ∷ [])
-fault_message l e fault.BadTag = says (codes ": found _, expected 0 or _") (FieldContent ∷ Number (tag_of e.place.field) ∷ [])
+fault_message l e fault.NotNetcdf = instead field_content (words (codes "0x434446"))
+fault_message l e (fault.UnknownVersion version) = instead field_content (words (codes "1, 2 or 5"))
+fault_message l e fault.HeaderTruncated = instead (number (l.file_len - e.offset)) (with (codes "_ bytes") (Long e.size))
+fault_message l e fault.BadTag = instead field_content (with (codes "0 or _") (Number (tag_of e.place.field)))
 fault_message l e fault.BadCount =
-    if is_after_zero_tag l.entries e.place.field then says (codes ": found _, expected 0") (FieldContent ∷ []) else below (top_bit_limit e.size)
-fault_message l e fault.BadName = says [] []
-fault_message l e fault.FloatingType = says (codes ": found _") (FieldType ∷ [])
-fault_message l e fault.BadType = says (codes ": found _, expected 1 to _") (FieldType ∷ Number (last_type l.entries) ∷ [])
+    if is_after_zero_tag l.entries e.place.field then instead field_content (words (codes "0"))
+    else instead field_content (with (codes "below _") (Number (top_bit_limit e.size)))
+fault_message l e fault.BadName = nothing
+fault_message l e fault.FloatingType = found (with (codes "_") FieldType)
+fault_message l e fault.BadType = instead (with (codes "_") FieldType) (with (codes "1 to _") (Number (last_type l.entries)))
 -- a dimension id may be wrong only since it is that of the record dimension; the fifth field of a header is the number of dimensions
 fault_message l e fault.BadShape =
     if nat_lt (number_of e.content) (number_of_field l.entries 4)
-    then says (codes ": found _, expected no record dimension here") (FieldContent ∷ [])
-    else below (number_of_field l.entries 4)
-fault_message l e fault.TwoRecordDims = says (codes ": found _, expected at least 1") (FieldContent ∷ [])
-fault_message l e fault.BadOffset = below (top_bit_limit e.size)
-fault_message l e fault.TooLarge = says [] []
+    then instead field_content (words (codes "no record dimension here"))
+    else instead field_content (with (codes "below _") (Number (number_of_field l.entries 4)))
+fault_message l e fault.TwoRecordDims = instead field_content (words (codes "at least 1"))
+fault_message l e fault.BadOffset = instead field_content (with (codes "below _") (Number (top_bit_limit e.size)))
+fault_message l e fault.TooLarge = nothing
 
 -- ---- the layout
 
 abbrev pub layout_message : LayoutFact → Message
-layout_message (layout.Streaming n) = says (codes ": found the streaming mark, for _") (Number n ∷ [])
-layout_message (layout.UnusedRecords n) = says (codes ": found _, expected 0") (Number n ∷ [])
-layout_message (layout.LargeVariable var n limit) = says (codes ": found a slab of _ bytes, expected at most _") (Number n ∷ Number limit ∷ [])
-layout_message (layout.BeginInHeader n end) =
-    says (codes ": found _, expected at least _, the end of the header") (Number n ∷ Number end ∷ [])
-layout_message (layout.Overlap n end of) =
-    says (codes ": found _, expected at least _, the end of _") (Number n ∷ Long end ∷ OfBlock of ∷ [])
+layout_message (layout.Streaming n) = found (with (codes "the streaming mark, for _") (Number n))
+layout_message (layout.UnusedRecords n) = instead (number n) (words (codes "0"))
+layout_message (layout.LargeVariable var n limit) =
+    instead (with (codes "a slab of _ bytes") (Number n)) (with (codes "at most _") (Number limit))
+layout_message (layout.BeginInHeader n end) = instead (number n) (with (codes "at least _, the end of the header") (Number end))
+layout_message (layout.Overlap n end of) = instead (number n) (with_both (codes "at least _, the end of _") (Long end) (OfBlock of))
 layout_message (layout.Unpadded n end of) =
-    says (codes ": found _, expected at least _, the padded end of _") (Number n ∷ Long end ∷ OfBlock of ∷ [])
+    instead (number n) (with_both (codes "at least _, the padded end of _") (Long end) (OfBlock of))
 layout_message (layout.Order n least of) =
-    says (codes ": found _, expected at least _, the begin of _") (Number n ∷ Number least ∷ OfBlock (block.Var of) ∷ [])
-layout_message (layout.AfterRecords n most) =
-    says (codes ": found _, expected at most _, the begin of the records") (Number n ∷ Number most ∷ [])
-layout_message (layout.RecordPlace n place) = says (codes ": found _, expected _") (Number n ∷ Number place ∷ [])
-layout_message (layout.Gap n of) = says (codes ": found _ unused bytes before _") (Number n ∷ OfBlock of ∷ [])
-layout_message (layout.Missing n end of) = says (codes ": found _ bytes, expected at least _") (Number n ∷ Long end ∷ [])
-layout_message (layout.EndPadding n end) = says (codes ": found _ bytes, expected _") (Number n ∷ Long end ∷ [])
-layout_message (layout.Trailing n end None) = says (codes ": found _ bytes, expected _") (Number n ∷ Number end ∷ [])
+    instead (number n) (with_both (codes "at least _, the begin of _") (Number least) (OfBlock (block.Var of)))
+layout_message (layout.AfterRecords n most) = instead (number n) (with (codes "at most _, the begin of the records") (Number most))
+layout_message (layout.RecordPlace n place) = instead (number n) (number place)
+layout_message (layout.Gap n of) = found (with_both (codes "_ unused bytes before _") (Number n) (OfBlock of))
+layout_message (layout.Missing n end of) = instead (with (codes "_ bytes") (Number n)) (with (codes "at least _") (Long end))
+layout_message (layout.EndPadding n end) = instead (with (codes "_ bytes") (Number n)) (with (codes "_") (Long end))
+layout_message (layout.Trailing n end None) = instead (with (codes "_ bytes") (Number n)) (number end)
 layout_message (layout.Trailing n end (Some records)) =
-    says (codes ": found _ bytes, expected _, or numrecs _") (Number n ∷ Number end ∷ Number records ∷ [])
+    instead (with (codes "_ bytes") (Number n)) (with_both (codes "_, or numrecs _") (Number end) (Number records))
 
 -- ---- fields
 
@@ -113,27 +117,39 @@ owner_number_at entries i = option_map_or (λ (e : Entry). owner_number e.place.
 
 abbrev pub field_message : Listing → Entry → Fact → Message
 field_message l e (fact.Fault fault) = fault_message l e fault
-field_message l e fact.Hdf5 = says (codes ": found _") (FieldContent ∷ [])
-field_message l e fact.Gzip = says (codes ": found 0x1f8b") []
-field_message l e fact.EmptyFile = says (codes ": found 0 bytes") []
-field_message l e fact.NameCharacters = says [] []
-field_message l e fact.LargeCount = below large_count
-field_message l e fact.EmptyList = says (codes ": found _, expected 0") (FieldContent ∷ [])
-field_message l e fact.LongName = says (codes ": found _, expected at most _") (FieldContent ∷ Number longest_name ∷ [])
-field_message l e (fact.DuplicateName first) = says (codes ": found the name of number _") (Number (owner_number_at l.entries first) ∷ [])
-field_message l e fact.NotNfc = says [] []
-field_message l e fact.Padding = says (codes ": found _, expected _") (FieldContent ∷ FieldZeros ∷ [])
-field_message l e fact.EmptyAttribute = says (codes ": found _, expected at least 1") (FieldContent ∷ [])
-field_message l e fact.TrailingNul = says [] []
-field_message l e (fact.FillType code) = says (codes ": found _, expected _, the variable's type") (FieldType ∷ TypeCode code ∷ [])
-field_message l e fact.FillCount = says (codes ": found _, expected 1") (FieldContent ∷ [])
-field_message l e fact.HighRank = says (codes ": found _, expected at most _") (FieldContent ∷ Number highest_rank ∷ [])
-field_message l e (fact.Vsize size) = says (codes ": found _, expected _") (FieldContent ∷ Number size ∷ [])
-field_message l e (fact.OddVsize size) = says (codes ": found _, expected _") (FieldContent ∷ Number size ∷ [])
+field_message l e fact.Hdf5 = found field_content
+field_message l e fact.Gzip = found (words (codes "0x1f8b"))
+field_message l e fact.EmptyFile = found (words (codes "0 bytes"))
+field_message l e fact.NameCharacters = nothing
+field_message l e fact.LargeCount = instead field_content (with (codes "below _") (Number large_count))
+field_message l e fact.EmptyList = instead field_content (words (codes "0"))
+field_message l e fact.LongName = instead field_content (with (codes "at most _") (Number longest_name))
+field_message l e (fact.DuplicateName first) = found (with (codes "the name of number _") (Number (owner_number_at l.entries first)))
+field_message l e fact.NotNfc = nothing
+field_message l e fact.Padding = instead field_content (with (codes "_") FieldZeros)
+field_message l e fact.EmptyAttribute = instead field_content (words (codes "at least 1"))
+field_message l e fact.TrailingNul = nothing
+field_message l e (fact.FillType code) = instead (with (codes "_") FieldType) (with (codes "_, the variable's type") (TypeCode code))
+field_message l e fact.FillCount = instead field_content (words (codes "1"))
+field_message l e fact.HighRank = instead field_content (with (codes "at most _") (Number highest_rank))
+field_message l e (fact.Vsize size) = instead field_content (number size)
+field_message l e (fact.OddVsize size) = instead field_content (number size)
 field_message l e (fact.Layout x) = layout_message x
 
--- of a fact at a field, or, without a field, of one in the data
-unfoldable pub details : Listing → Option Entry → Fact → Bytes
-details l (Some e) x = message_text l.header e.content (field_message l e x)
-details l None (fact.Layout x) = message_text l.header content.Cut (layout_message x)
-details l None x = []
+-- of a fact at a field; in the data, where there is none, only facts about the layout say more
+unfoldable pub message_at : Listing → Option Entry → Fact → Message
+message_at l (Some e) x = field_message l e x
+message_at l None (fact.Layout x) = layout_message x
+message_at l None x = nothing
+
+-- the content of the field, if there is one
+unfoldable pub content_at : Option Entry → Content
+content_at (Some e) = e.content
+content_at None = content.Cut
+
+-- what is found there, and what is expected, if the fact says it
+abbrev pub found_at : Listing → Option Entry → Fact → Option Bytes
+found_at l e x = found_text l.header (content_at e) (message_at l e x)
+
+abbrev pub expected_at : Listing → Option Entry → Fact → Option Bytes
+expected_at l e x = expected_text l.header (content_at e) (message_at l e x)

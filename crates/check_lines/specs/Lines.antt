@@ -1,5 +1,5 @@
--- Definition. The line of a finding, `FILE:OFFSET: SEVERITY: KIND: PATH`, with `: found F, expected E` where its kind has them; and the lines
--- of a report.
+-- Definition. What is told of a finding; its line, `FILE:OFFSET: SEVERITY: KIND: PATH`, with `: found F, expected E` where its kind has
+-- them; and the lines of a report.
 use Rattle.std.specs.Prelude.{ℕ, ◌+◌, ◌&&◌, not, Bool, true, false, if◌then◌else◌, List, [], ◌∷◌, codes, decimal, take, Option, Some, None, slice_get}
 use Rattle.std.specs.List.{list_any}
 use Rattle.std.specs.Option.{option_and_then}
@@ -10,7 +10,7 @@ use Rattle.nc_findings.specs.declared.layout_fact.LayoutFact.TheVariants as layo
 use Rattle.nc_findings.specs.Kinds.{kind_of, severity_of}
 use Rattle.nc_findings.specs.declared.finding.Fact.TheVariants as fact
 use Rattle.nc_findings.specs.declared.kind.Severity.TheVariants.{Error, Violation, Note}
-use Rattle.check_lines.specs.Details.{details}
+use Rattle.check_lines.specs.Details.{expected_at, found_at}
 use Rattle.check_lines.specs.Paths.{KnownNames, field_path, names_after, no_names, slab_path, var_path}
 use Rattle.check_lines.specs.Shown.{shown_path}
 use Rattle.check_lines.specs.Words.{each_of, kind_word, severity_word}
@@ -27,6 +27,37 @@ path l names None x = codes "data"
 abbrev pub entry_of : Listing → Finding → Option Entry
 entry_of l f = option_and_then (slice_get l.entries) f.field
 
+-- what is told of a finding in the file of this path
+pub record Told : Type 0 where
+  pub file : Bytes
+  pub offset : ℕ
+  pub kind : Kind
+  pub path : Bytes
+  -- what is found, and what is expected in its place, if the finding says it
+  pub found : Option Bytes
+  pub expected : Option Bytes
+
+-- with these names as the known ones
+abbrev pub told_with : Bytes → Listing → KnownNames → Finding → Told
+told_with file l names f = record {
+  file = file;
+  offset = f.offset;
+  kind = kind_of f.fact;
+  path = path l names (entry_of l f) f.fact;
+  found = found_at l (entry_of l f) f.fact;
+  expected = expected_at l (entry_of l f) f.fact;
+}
+
+-- the names that are known after the fields up to and including this one; in the data, none
+abbrev pub names_at : List Entry → Option ℕ → KnownNames
+names_at entries (Some i) = names_after (take (i + 1) entries)
+names_at entries None = no_names
+
+abbrev pub told : Bytes → Listing → Finding → Told
+told file l f = told_with file l (names_at l.entries f.field) f
+
+-- ---- lines
+
 -- the file and the offset
 unfoldable pub position_text : Bytes → ℕ → Bytes
 position_text file offset = concat_parts (shown_path file ∷ codes ":" ∷ decimal offset ∷ codes ": " ∷ [])
@@ -35,18 +66,19 @@ position_text file offset = concat_parts (shown_path file ∷ codes ":" ∷ deci
 unfoldable pub kind_text : Kind → Bytes
 kind_text kind = concat_parts (severity_word (severity_of kind) ∷ codes ": " ∷ kind_word kind ∷ codes ": " ∷ [])
 
--- the line of a finding, with these names as the known ones
-unfoldable pub line_with : Bytes → Listing → KnownNames → Finding → Bytes
-line_with file l names f = concat_parts (
-    position_text file f.offset ∷ kind_text (kind_of f.fact) ∷ path l names (entry_of l f) f.fact ∷ details l (entry_of l f) f.fact ∷ codes "\n" ∷ [])
+-- a word and a text, if there is one
+abbrev pub after : Bytes → Option Bytes → Bytes
+after word None = []
+after word (Some text) = concat_parts (word ∷ text ∷ [])
 
--- the names that are known after the fields up to and including this one; in the data, none
-abbrev pub names_at : List Entry → Option ℕ → KnownNames
-names_at entries (Some i) = names_after (take (i + 1) entries)
-names_at entries None = no_names
+-- the line of what is told
+unfoldable pub line_text : Told → Bytes
+line_text t = concat_parts (
+    position_text t.file t.offset ∷ kind_text t.kind ∷ t.path ∷ after (codes ": found ") t.found ∷ after (codes ", expected ") t.expected
+    ∷ codes "\n" ∷ [])
 
 abbrev pub line : Bytes → Listing → Finding → Bytes
-line file l f = line_with file l (names_at l.entries f.field) f
+line file l f = line_text (told file l f)
 
 -- ---- reports
 
@@ -70,13 +102,13 @@ abbrev pub is_reported : Filter → Finding → Bool
 is_reported filter f =
     is_at_level filter.level (severity_of (kind_of f.fact)) && not (is_ignored filter.ignored (kind_of f.fact))
 
--- the line of a finding, if it is reported
-abbrev pub line_if : Filter → Bytes → Listing → Finding → Bytes
-line_if filter file l f = if is_reported filter f then line file l f else []
+-- the text that a finding has, if it is reported
+abbrev pub if_reported : (Finding → Bytes) → Filter → Finding → Bytes
+if_reported text filter f = if is_reported filter f then text f else []
 
 -- the lines of these findings
 abbrev pub lines : Filter → Bytes → Listing → List Finding → Bytes
-lines filter file l findings = each_of (line_if filter file l) findings
+lines filter file l findings = each_of (if_reported (line file l) filter) findings
 
 -- one of them is reported, and is of this severity or a graver one
 abbrev pub has_reported : Filter → Severity → List Finding → Bool

@@ -1,5 +1,6 @@
--- Definition. Messages: what a line says of a finding, as a text with blanks and the parts that stand in their place.
-use Rattle.std.specs.Prelude.{ℕ, ◌-◌, ◌+◌, ◌/◌, ◌%◌, ◌==◌, Bool, true, false, nat_lt, if◌then◌else◌, List, [], ◌∷◌, codes, decimal, map, Result}
+-- Definition. Messages: what is found, and what is expected in its place, each as a text with blanks and the parts that stand in their
+-- place.
+use Rattle.std.specs.Prelude.{ℕ, ◌-◌, ◌+◌, ◌/◌, ◌%◌, ◌==◌, Bool, true, false, nat_lt, if◌then◌else◌, [], ◌∷◌, codes, decimal, Option, Some, None, Result}
 use Rattle.std.specs.List.{after_first, before_first}
 use Rattle.std.specs.Str.{byte}
 use Rattle.nc_types.specs.Bytes.{Bytes, concat_parts}
@@ -8,7 +9,7 @@ use Rattle.nc_findings.specs.declared.entry.Content.{Content}
 use Rattle.nc_findings.specs.declared.entry.Content.TheVariants as content
 use Rattle.nc_findings.specs.Contents.{number_of}
 use Rattle.check_lines.specs.declared.message.Part.{Part}
-use Rattle.check_lines.specs.declared.message.Part.TheVariants.{Number, Long, TypeCode, FieldContent, FieldType, FieldZeros, OfBlock, Nothing}
+use Rattle.check_lines.specs.declared.message.Part.TheVariants.{Number, Long, TypeCode, FieldContent, FieldType, FieldZeros, OfBlock}
 use Rattle.check_lines.specs.Paths.{block_path}
 use Rattle.check_lines.specs.Words.{each_of}
 
@@ -60,15 +61,19 @@ type_text c = concat_parts (content_text c ∷ type_word (number_of c) ∷ [])
 
 -- ---- messages
 
--- each `_` of the text is a blank
-pub record Message : Type 0 where
-  pub text : Bytes
-  pub parts : List Part
+-- what is said of a finding: words, or a text with one blank `_` or two, and the parts that stand in their place
+pub data Said : Type 0 where
+  words : (text : Bytes) → Said
+  with : (text : Bytes) (part : Part) → Said
+  with_both : (text : Bytes) (first second : Part) → Said
 
-abbrev pub says : Bytes → List Part → Message
-says text parts = record { text = text; parts = parts }
+-- nothing more, or what is found, or what is found and what is expected in its place
+pub data Message : Type 0 where
+  nothing : Message
+  found : (f : Said) → Message
+  instead : (f e : Said) → Message
 
--- a part of a message about a field with this content, or about the data
+-- a part of what is said of a field with this content, or of the data
 abbrev pub part_text : Result Header FormatFault → Content → Part → Bytes
 part_text header c (Number n) = decimal n
 part_text header c (Long n) = decimal n
@@ -77,15 +82,28 @@ part_text header c FieldContent = content_text c
 part_text header c FieldType = type_text c
 part_text header c FieldZeros = zeros_text c
 part_text header c (OfBlock block) = block_path header block
-part_text header c Nothing = []
 
 abbrev pub is_blank : ℕ → Bool
 is_blank b = b == byte "_"
 
--- a text with these parts in place of its first blanks
-unfoldable pub with_parts : Bytes → List Bytes → Bytes
-with_parts text [] = text
-with_parts text (part ∷ parts) = concat_parts (before_first is_blank text ∷ part ∷ with_parts (after_first is_blank text) parts ∷ [])
+-- a text with a part in place of its blank
+unfoldable pub with_part : Result Header FormatFault → Content → Bytes → Part → Bytes
+with_part header c text part = concat_parts (before_first is_blank text ∷ part_text header c part ∷ after_first is_blank text ∷ [])
 
-abbrev pub message_text : Result Header FormatFault → Content → Message → Bytes
-message_text header c message = with_parts message.text (map (part_text header c) message.parts)
+-- the text of what is said
+unfoldable pub said_text : Result Header FormatFault → Content → Said → Bytes
+said_text header c (words text) = text
+said_text header c (with text part) = with_part header c text part
+said_text header c (with_both text first second) =
+    concat_parts (before_first is_blank text ∷ part_text header c first ∷ with_part header c (after_first is_blank text) second ∷ [])
+
+-- what is found, and what is expected, if it is said
+unfoldable pub found_text : Result Header FormatFault → Content → Message → Option Bytes
+found_text header c nothing = None
+found_text header c (found f) = Some (said_text header c f)
+found_text header c (instead f e) = Some (said_text header c f)
+
+unfoldable pub expected_text : Result Header FormatFault → Content → Message → Option Bytes
+expected_text header c nothing = None
+expected_text header c (found f) = None
+expected_text header c (instead f e) = Some (said_text header c e)

@@ -1,86 +1,86 @@
-//! What a line says of what is found, and of what is expected in its place.
+//! What is said of what is found, and of what is expected in its place.
 
 ghost use Rattle.std.specs.Prelude.{◌≡◌};
 ghost use Rattle.devices.specs.code.SinkWrites.{Wrote};
-ghost use Rattle.check_lines.specs.Details.{details, field_message, owner_number, owner_number_at};
+ghost use Rattle.check_lines.specs.Details.{expected_at, field_message, found_at, message_at, owner_number, owner_number_at};
 ghost use Rattle.check_lines.specs.code.Names.{entry_in};
+ghost use Rattle.check_lines.specs.code.Styles.{end_in};
 ghost use Rattle.check_lines.specs.code.Written.{message_of};
 
-use crate::fault_message::{below, fault_message};
+use crate::fault_message::fault_message;
 use crate::layout_message::layout_message;
-use crate::message::Part::{FieldContent, FieldType, FieldZeros, Nothing, Number, TypeCode};
-use crate::message::{CONTENT, Message, NO_PARTS, put_message};
+use crate::message::Message::{Found, Instead, Nothing};
+use crate::message::Part::{FieldType, FieldZeros, Number, TypeCode};
+use crate::message::Said::{With, Words};
+use crate::message::{CONTENT, Message, put_message};
+use crate::style::Style;
 use devices::{Sink, WriteFailed};
 use nc_findings::{Content, Entry, Fact, HIGHEST_RANK, LARGE_COUNT, LONGEST_NAME, Listing, Owner};
 
-/// Writes the end of a finding's line: what is found and what is expected, such as `: found 3, expected 0`, or nothing if the fact says no
-/// more. `listing` has the header's fields, and `entry` is the finding's field. With `None`, for a finding in the data, it writes only a
-/// fact about the file's layout. Errs if the sink fails.
-#[tactic(auto, using(devices::proofs::Writes::writes), unfolding(crate::specs::Details::details))]
+/// Writes what is found and what is expected: the end of a finding's line, such as `: found 3, expected 0`, or members of its object.
+/// Nothing if the fact says no more. `listing` has the header's fields, and `entry` is the finding's field. With `None`, for a finding in
+/// the data, it writes only a fact about the file's layout. Errs if the sink fails.
+#[tactic(auto, unfolding(crate::specs::Details::content_at))]
 pub(crate) fn put_details<W: Sink>(
     sink: &mut W,
+    style: Style,
     listing: &Listing,
     entry: Option<&Entry>,
     fact: Fact,
 ) -> Result<(), WriteFailed>
-    ensures { Wrote W.view sink.old sink.new (details listing.now (entry_in entry.entry) fact) result }
+    ensures { Wrote W.view sink.old sink.new (end_in style
+        (found_at listing.now (entry_in entry.entry) fact)
+        (expected_at listing.now (entry_in entry.entry) fact)) result }
 {
+    let message = message_at(listing, entry, fact);
     match entry {
-        Some(entry) => {
-            let message = field_message(listing, entry, fact);
-            put_message(sink, &listing.header, &entry.content, message)
-        }
-        None => match fact {
-            Fact::Layout(fact) => {
-                put_message(sink, &listing.header, &Content::Cut, layout_message(fact))
-            }
-            _ => Ok(()),
-        },
+        Some(entry) => put_message(sink, style, &listing.header, &entry.content, message),
+        None => put_message(sink, style, &listing.header, &Content::Cut, message),
     }
 }
 
-/// Returns the message for a fact at the field `entry` of the listing (the fields of the header): a text, such as `: found _, expected 0`,
-/// and the parts that fill its blanks `_`. The text is empty if the fact says no more.
+/// Returns the message for a fact at the field `entry` of the listing (the fields of the header), or, with `None`, for a fact in the data.
+#[tactic(auto, unfolding(crate::specs::Details::message_at))]
+fn message_at(listing: &Listing, entry: Option<&Entry>, fact: Fact) -> Message
+    ensures { message_of result ≡ message_at listing.now (entry_in entry.entry) fact }
+{
+    match (entry, fact) {
+        (Some(entry), _) => field_message(listing, entry, fact),
+        (None, Fact::Layout(fact)) => layout_message(fact),
+        (None, _) => Nothing,
+    }
+}
+
+/// Returns the message for a fact at the field `entry` of the listing.
 fn field_message(listing: &Listing, entry: &Entry, fact: Fact) -> Message
     ensures { message_of result ≡ field_message listing.now entry.now fact }
 {
-    let (text, parts) = match fact {
-        Fact::Fault(fault) => return fault_message(listing, entry, fault),
-        Fact::Hdf5 => (": found _", CONTENT),
-        Fact::Gzip => (": found 0x1f8b", NO_PARTS),
-        Fact::EmptyFile => (": found 0 bytes", NO_PARTS),
-        Fact::NameCharacters | Fact::NotNfc | Fact::TrailingNul => ("", NO_PARTS),
-        Fact::LargeCount => return below(LARGE_COUNT),
-        Fact::EmptyList => (": found _, expected 0", CONTENT),
-        Fact::LongName => (
-            ": found _, expected at most _",
-            [FieldContent, Number(LONGEST_NAME), Nothing],
-        ),
+    match fact {
+        Fact::Fault(fault) => fault_message(listing, entry, fault),
+        Fact::Hdf5 => Found(CONTENT),
+        Fact::Gzip => Found(Words("0x1f8b")),
+        Fact::EmptyFile => Found(Words("0 bytes")),
+        Fact::NameCharacters | Fact::NotNfc | Fact::TrailingNul => Nothing,
+        Fact::LargeCount => Instead(CONTENT, With("below _", Number(LARGE_COUNT))),
+        Fact::EmptyList => Instead(CONTENT, Words("0")),
+        Fact::LongName => Instead(CONTENT, With("at most _", Number(LONGEST_NAME))),
         Fact::DuplicateName { first } => {
             let number = owner_number_at(listing.entries.as_slice(), first);
-            (
-                ": found the name of number _",
-                [Number(number), Nothing, Nothing],
-            )
+            Found(With("the name of number _", Number(number)))
         }
-        Fact::Padding => (": found _, expected _", [FieldContent, FieldZeros, Nothing]),
-        Fact::EmptyAttribute => (": found _, expected at least 1", CONTENT),
-        Fact::FillType { expected } => (
-            ": found _, expected _, the variable's type",
-            [FieldType, TypeCode(expected), Nothing],
+        Fact::Padding => Instead(CONTENT, With("_", FieldZeros)),
+        Fact::EmptyAttribute => Instead(CONTENT, Words("at least 1")),
+        Fact::FillType { expected } => Instead(
+            With("_", FieldType),
+            With("_, the variable's type", TypeCode(expected)),
         ),
-        Fact::FillCount => (": found _, expected 1", CONTENT),
-        Fact::HighRank => (
-            ": found _, expected at most _",
-            [FieldContent, Number(HIGHEST_RANK), Nothing],
-        ),
-        Fact::Vsize { expected } | Fact::OddVsize { expected } => (
-            ": found _, expected _",
-            [FieldContent, Number(expected), Nothing],
-        ),
-        Fact::Layout(fact) => return layout_message(fact),
-    };
-    Message { text, parts }
+        Fact::FillCount => Instead(CONTENT, Words("1")),
+        Fact::HighRank => Instead(CONTENT, With("at most _", Number(HIGHEST_RANK))),
+        Fact::Vsize { expected } | Fact::OddVsize { expected } => {
+            Instead(CONTENT, With("_", Number(expected)))
+        }
+        Fact::Layout(fact) => layout_message(fact),
+    }
 }
 
 /// Returns the number, from 0 in its list, of the dimension, attribute or variable to which the field at the index `i` belongs. Returns 0

@@ -1,11 +1,13 @@
-//! What a line says of a field at which reading stops.
+//! What is said of a field at which reading stops.
 
 ghost use Rattle.std.specs.Prelude.{◌≡◌};
-ghost use Rattle.check_lines.specs.Details.{below, fault_message, is_after_zero_tag, is_list_count, last_type, number_of_field, tag_of, top_bit_limit};
+ghost use Rattle.check_lines.specs.Details.{fault_message, is_after_zero_tag, is_list_count, last_type, number_of_field, tag_of, top_bit_limit};
 ghost use Rattle.check_lines.specs.code.Written.{message_of};
 
-use crate::message::Part::{FieldContent, FieldType, Long, Nothing, Number};
-use crate::message::{CONTENT, Message, NO_PARTS};
+use crate::message::Message::{Found, Instead, Nothing};
+use crate::message::Part::{FieldType, Long, Number};
+use crate::message::Said::{With, Words};
+use crate::message::{CONTENT, Message};
 use nc_base::FormatFault;
 use nc_findings::{Entry, FieldKind, Listing};
 
@@ -16,54 +18,43 @@ const VERSION_FIELD: usize = 1;
 const DIMS_COUNT_FIELD: usize = 4;
 
 /// Returns the message for the field `entry`, at which reading the header stopped with `fault`: what is found there, and what is expected,
-/// or an empty text if `fault` says no more. This is the last field of the listing, but no clause says so.
+/// if `fault` says it. This is the last field of the listing, but no clause says so.
 pub(crate) fn fault_message(listing: &Listing, entry: &Entry, fault: FormatFault) -> Message
     ensures { message_of result ≡ fault_message listing.now entry.now fault }
 {
     let entries = listing.entries.as_slice();
-    let (text, parts) = match fault {
-        FormatFault::NotNetcdf => (": found _, expected 0x434446", CONTENT),
-        FormatFault::UnknownVersion(_) => (": found _, expected 1, 2 or 5", CONTENT),
+    match fault {
+        FormatFault::NotNetcdf => Instead(CONTENT, Words("0x434446")),
+        FormatFault::UnknownVersion(_) => Instead(CONTENT, Words("1, 2 or 5")),
         FormatFault::HeaderTruncated => {
             let bytes_left = listing.file_len.saturating_sub(entry.offset);
-            (
-                ": found _, expected _ bytes",
-                [Number(bytes_left), Long(entry.size), Nothing],
+            Instead(
+                With("_", Number(bytes_left)),
+                With("_ bytes", Long(entry.size)),
             )
         }
-        FormatFault::BadTag => (
-            ": found _, expected 0 or _",
-            [FieldContent, Number(tag_of(entry.place.field)), Nothing],
-        ),
-        FormatFault::BadCount if is_after_zero_tag(entries, entry.place.field) => (
-            ": found _, expected 0",
-            CONTENT,
-        ),
+        FormatFault::BadTag => Instead(CONTENT, With("0 or _", Number(tag_of(entry.place.field)))),
+        FormatFault::BadCount if is_after_zero_tag(entries, entry.place.field) => {
+            Instead(CONTENT, Words("0"))
+        }
         FormatFault::BadShape
-            if entry.content.number() < number_of_field(entries, DIMS_COUNT_FIELD) => (
-            ": found _, expected no record dimension here",
-            CONTENT,
+            if entry.content.number() < number_of_field(entries, DIMS_COUNT_FIELD) => {
+            Instead(CONTENT, Words("no record dimension here"))
+        }
+        FormatFault::BadCount | FormatFault::BadOffset => {
+            Instead(CONTENT, With("below _", Number(top_bit_limit(entry.size))))
+        }
+        FormatFault::BadShape => {
+            let dims = number_of_field(entries, DIMS_COUNT_FIELD);
+            Instead(CONTENT, With("below _", Number(dims)))
+        }
+        FormatFault::BadName | FormatFault::TooLarge => Nothing,
+        FormatFault::FloatingType => Found(With("_", FieldType)),
+        FormatFault::BadType => Instead(
+            With("_", FieldType),
+            With("1 to _", Number(last_type(entries))),
         ),
-        FormatFault::BadCount | FormatFault::BadOffset => return below(top_bit_limit(entry.size)),
-        FormatFault::BadShape => return below(number_of_field(entries, DIMS_COUNT_FIELD)),
-        FormatFault::BadName | FormatFault::TooLarge => ("", NO_PARTS),
-        FormatFault::FloatingType => (": found _", [FieldType, Nothing, Nothing]),
-        FormatFault::BadType => (
-            ": found _, expected 1 to _",
-            [FieldType, Number(last_type(entries)), Nothing],
-        ),
-        FormatFault::TwoRecordDims => (": found _, expected at least 1", CONTENT),
-    };
-    Message { text, parts }
-}
-
-/// Returns the message `: found _, expected below _`. The content of the field fills its first blank, and `limit` the second.
-pub(crate) fn below(limit: u64) -> Message
-    ensures { message_of result ≡ below limit }
-{
-    Message {
-        text: ": found _, expected below _",
-        parts: [FieldContent, Number(limit), Nothing],
+        FormatFault::TwoRecordDims => Instead(CONTENT, Words("at least 1")),
     }
 }
 

@@ -1,82 +1,79 @@
-//! What a line says of the layout of a file.
+//! What is said of the layout of a file.
 
 ghost use Rattle.std.specs.Prelude.{◌≡◌};
 ghost use Rattle.check_lines.specs.Details.{layout_message};
 ghost use Rattle.check_lines.specs.code.Written.{message_of};
 
 use crate::message::Message;
-use crate::message::Part::{Long, Nothing, Number, OfBlock};
+use crate::message::Message::{Found, Instead};
+use crate::message::Part::{Long, Number, OfBlock};
+use crate::message::Said::{With, WithBoth, Words};
 use nc_findings::{Block, LayoutFact};
 
-/// Returns the message for a fact about the layout of the file: a text such as `: found _, expected at most _`, and the parts that fill its
-/// blanks `_`.
+/// Returns the message for a fact about the layout of the file.
 pub(crate) fn layout_message(fact: LayoutFact) -> Message
     ensures { message_of result ≡ layout_message fact }
 {
-    let (text, parts) = match fact {
-        LayoutFact::Streaming { records } => (
-            ": found the streaming mark, for _",
-            [Number(records), Nothing, Nothing],
-        ),
-        LayoutFact::UnusedRecords { records } => {
-            (": found _, expected 0", [Number(records), Nothing, Nothing])
+    match fact {
+        LayoutFact::Streaming { records } => {
+            Found(With("the streaming mark, for _", Number(records)))
         }
-        LayoutFact::LargeVariable { bytes, limit, .. } => (
-            ": found a slab of _ bytes, expected at most _",
-            [Number(bytes), Number(limit), Nothing],
+        LayoutFact::UnusedRecords { records } => Instead(With("_", Number(records)), Words("0")),
+        LayoutFact::LargeVariable { bytes, limit, .. } => Instead(
+            With("a slab of _ bytes", Number(bytes)),
+            With("at most _", Number(limit)),
         ),
-        LayoutFact::BeginInHeader { begin, header_end } => (
-            ": found _, expected at least _, the end of the header",
-            [Number(begin), Number(header_end), Nothing],
+        LayoutFact::BeginInHeader { begin, header_end } => Instead(
+            With("_", Number(begin)),
+            With("at least _, the end of the header", Number(header_end)),
         ),
-        LayoutFact::Overlap { begin, end, of } => (
-            ": found _, expected at least _, the end of _",
-            [Number(begin), Long(end), OfBlock(of)],
+        LayoutFact::Overlap { begin, end, of } => Instead(
+            With("_", Number(begin)),
+            WithBoth("at least _, the end of _", Long(end), OfBlock(of)),
         ),
-        LayoutFact::Unpadded { begin, end, of } => (
-            ": found _, expected at least _, the padded end of _",
-            [Number(begin), Long(end), OfBlock(of)],
+        LayoutFact::Unpadded { begin, end, of } => Instead(
+            With("_", Number(begin)),
+            WithBoth("at least _, the padded end of _", Long(end), OfBlock(of)),
         ),
-        LayoutFact::Order { begin, least, of } => (
-            ": found _, expected at least _, the begin of _",
-            [Number(begin), Number(least), OfBlock(Block::Var(of))],
+        LayoutFact::Order { begin, least, of } => Instead(
+            With("_", Number(begin)),
+            WithBoth(
+                "at least _, the begin of _",
+                Number(least),
+                OfBlock(Block::Var(of)),
+            ),
         ),
-        LayoutFact::AfterRecords { begin, most } => (
-            ": found _, expected at most _, the begin of the records",
-            [Number(begin), Number(most), Nothing],
+        LayoutFact::AfterRecords { begin, most } => Instead(
+            With("_", Number(begin)),
+            With("at most _, the begin of the records", Number(most)),
         ),
-        LayoutFact::RecordPlace { begin, expected } => (
-            ": found _, expected _",
-            [Number(begin), Number(expected), Nothing],
+        LayoutFact::RecordPlace { begin, expected } => {
+            Instead(With("_", Number(begin)), With("_", Number(expected)))
+        }
+        LayoutFact::Gap { bytes, before } => Found(WithBoth(
+            "_ unused bytes before _",
+            Number(bytes),
+            OfBlock(before),
+        )),
+        LayoutFact::Missing { file_len, end, .. } => Instead(
+            With("_ bytes", Number(file_len)),
+            With("at least _", Long(end)),
         ),
-        LayoutFact::Gap { bytes, before } => (
-            ": found _ unused bytes before _",
-            [Number(bytes), OfBlock(before), Nothing],
-        ),
-        LayoutFact::Missing { file_len, end, .. } => (
-            ": found _ bytes, expected at least _",
-            [Number(file_len), Long(end), Nothing],
-        ),
-        LayoutFact::EndPadding { file_len, end } => (
-            ": found _ bytes, expected _",
-            [Number(file_len), Long(end), Nothing],
-        ),
+        LayoutFact::EndPadding { file_len, end } => {
+            Instead(With("_ bytes", Number(file_len)), With("_", Long(end)))
+        }
         LayoutFact::Trailing {
             file_len,
             end,
             records: None,
-        } => (
-            ": found _ bytes, expected _",
-            [Number(file_len), Number(end), Nothing],
-        ),
+        } => Instead(With("_ bytes", Number(file_len)), With("_", Number(end))),
         LayoutFact::Trailing {
             file_len,
             end,
             records: Some(records),
-        } => (
-            ": found _ bytes, expected _, or numrecs _",
-            [Number(file_len), Number(end), Number(records)],
+        } => Instead(
+            With("_ bytes", Number(file_len)),
+            WithBoth("_, or numrecs _", Number(end), Number(records)),
         ),
-    };
-    Message { text, parts }
+    }
 }

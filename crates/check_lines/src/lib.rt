@@ -1,7 +1,8 @@
 //! The lines that tell what is wrong or odd in a netCDF classic file: one for each finding of a report.
 //!
 //! [`put_lines`] writes a line for each finding of a report that is to be reported, and [`gravest`] says how grave the gravest of them is;
-//! [`FilterOptions`] says which are. [`put_file_path`] and [`kind_word`] give the path and the word of a kind as they stand in a line.
+//! [`FilterOptions`] says which are. [`put_json_lines`] writes a JSON object in place of each line (RFC 8259). [`put_file_path`] and
+//! [`kind_word`] give the path and the word of a kind as they stand in a line.
 //!
 //! Each function that takes a [`Sink`](devices::Sink) writes its text from beginning to end, and does not allocate. It errs only if the
 //! sink fails, and writes nothing after that.
@@ -16,12 +17,14 @@ mod known_names;
 mod layout_message;
 mod line;
 mod message;
+mod object;
 mod passed;
 mod report_lines;
 mod shown;
+mod style;
 mod words;
 
 pub use filter::FilterOptions;
-pub use report_lines::{gravest, put_lines};
+pub use report_lines::{gravest, put_json_lines, put_lines};
 pub use shown::{LONGEST_PATH, put_file_path};
 pub use words::kind_word;

@@ -1,24 +1,39 @@
-//! Messages: what a line says of a finding, as a text with blanks and the parts that stand in their place.
+//! Messages: what is found, and what is expected in its place, each as a text with blanks and the parts that stand in their place.
 
-ghost use Rattle.std.specs.Prelude.{◌≡◌, map};
+ghost use Rattle.std.specs.Prelude.{◌≡◌, Some};
 ghost use Rattle.std.specs.List.{after_first, before_first};
 ghost use Rattle.devices.specs.code.SinkWrites.{Wrote};
-ghost use Rattle.check_lines.specs.Messages.{with_parts, is_blank, message_text, part_text};
-ghost use Rattle.check_lines.specs.code.Written.{message_of, parts_of};
+ghost use Rattle.check_lines.specs.Messages.{expected_text, found_text, is_blank, part_text, said_text, with_part};
+ghost use Rattle.check_lines.specs.code.Styles.{end_in, in_style, said_in};
+ghost use Rattle.check_lines.specs.code.Written.{message_of, said_of};
 
 use crate::content::{put_content, put_type, put_zeros};
 use crate::field_path::put_block_path;
+use crate::style::{Style, put_text};
 use devices::{Sink, WriteFailed, put, put_decimal};
 use nc_base::{FormatFault, Header};
 use nc_findings::{Block, Content};
 
-/// A text with blanks, and the parts that stand in their place.
+/// What a finding says more than its kind and its path.
 #[derive(Clone, Copy)]
-pub(crate) struct Message {
-    /// The text. Each `_` is a blank.
-    pub text: &'static str,
-    /// The parts, up to the first that is `Nothing`.
-    pub parts: [Part; 3],
+pub(crate) enum Message {
+    /// Nothing more.
+    Nothing,
+    /// What is found.
+    Found(Said),
+    /// What is found, and what is expected in its place.
+    Instead(Said, Said),
+}
+
+/// What is said of what is found or expected.
+#[derive(Clone, Copy)]
+pub(crate) enum Said {
+    /// These words.
+    Words(&'static str),
+    /// A text with a blank `_`, and the part that stands in its place.
+    With(&'static str, Part),
+    /// A text with two blanks `_`, and the parts that stand in their place.
+    WithBoth(&'static str, Part, Part),
 }
 
 /// What stands in place of a blank.
@@ -38,54 +53,132 @@ pub(crate) enum Part {
     FieldZeros,
     /// The path of a block: a variable, or `the records`.
     OfBlock(Block),
-    /// Nothing: the message has no more parts.
-    Nothing,
 }
 
-/// The parts of a message without blanks.
-pub(crate) const NO_PARTS: [Part; 3] = [Part::Nothing, Part::Nothing, Part::Nothing];
+/// The content of the field alone.
+pub(crate) const CONTENT: Said = Said::With("_", Part::FieldContent);
 
-/// The parts of a message whose only blank is the content of the field.
-pub(crate) const CONTENT: [Part; 3] = [Part::FieldContent, Part::Nothing, Part::Nothing];
-
-/// Writes a message: its text, with its parts in place of the blanks `_`. `content` is that of the field that the message is about, and
-/// `header` has the names of variables. Errs if the sink fails.
+/// Writes a message: at the end of a line (`: found 3, expected 0`), or as members of an object (`,"found":"3","expected":"0"`). `content`
+/// is that of the field that the message is about, and `header` has the names of variables. Errs if the sink fails.
+#[tactic(auto, using(crate::proofs::Styled::styled), unfolding(crate::specs::Messages::found_text, crate::specs::Messages::expected_text, crate::specs::code::Styles::end_in))]
 pub(crate) fn put_message<W: Sink>(
     sink: &mut W,
+    style: Style,
     header: &Result<Header, FormatFault>,
     content: &Content,
     message: Message,
 ) -> Result<(), WriteFailed>
-    ensures { Wrote W.view sink.old sink.new
-        (message_text header.now content.now (message_of message)) result }
+    ensures { Wrote W.view sink.old sink.new (end_in style
+        (found_text header.now content.now (message_of message))
+        (expected_text header.now content.now (message_of message))) result }
 {
-    put_with_parts(sink, header, content, message.text, &message.parts)
+    match message {
+        Message::Nothing => Ok(()),
+        Message::Found(found) => {
+            put_said_after(
+                sink,
+                style,
+                b": found ",
+                b",\"found\":\"",
+                header,
+                content,
+                found,
+            )
+        }
+        Message::Instead(found, expected) => {
+            put_said_after(
+                sink,
+                style,
+                b": found ",
+                b",\"found\":\"",
+                header,
+                content,
+                found,
+            )?;
+            put_said_after(
+                sink,
+                style,
+                b", expected ",
+                b",\"expected\":\"",
+                header,
+                content,
+                expected,
+            )
+        }
+    }
 }
 
-/// Writes `text`, in which each `_` is a blank, with the first part in place of the first blank, and so on, up to a part that is `Nothing`.
-/// Blanks that are left are written as `_`. `content` is that of the field that the message is about, and `header` has the names of
-/// variables. Errs if the sink fails.
-#[tactic(auto, using(devices::proofs::Writes::writes), unfolding(crate::specs::Messages::with_parts))]
-fn put_with_parts<W: Sink>(
+/// Writes what is said after a word of a line, or as a member of an object: after `name`, its name with what stands around it, and before a
+/// quote. `content` is that of the field that it is about, and `header` has the names of variables. Errs if the sink fails.
+#[tactic(auto, using(devices::proofs::Writes::writes), unfolding(crate::specs::Json::member, crate::specs::code::Styles::in_style, crate::specs::code::Styles::said_in))]
+fn put_said_after<W: Sink>(
     sink: &mut W,
+    style: Style,
+    word: &[u8],
+    name: &[u8],
+    header: &Result<Header, FormatFault>,
+    content: &Content,
+    said: Said,
+) -> Result<(), WriteFailed>
+    ensures { Wrote W.view sink.old sink.new (said_in style word.now name.now
+        (Some (said_text header.now content.now (said_of said)))) result }
+{
+    match style {
+        Style::Line => {
+            put(sink, word)?;
+            put_said(sink, Style::Line, header, content, said)
+        }
+        Style::Json => {
+            put(sink, name)?;
+            put_said(sink, Style::Json, header, content, said)?;
+            put(sink, b"\"")
+        }
+    }
+}
+
+/// Writes what is said, with its parts in place of its blanks. `content` is that of the field that it is about, and `header` has the names
+/// of variables. Errs if the sink fails.
+#[tactic(auto, using(crate::proofs::Styled::styled), unfolding(crate::specs::Messages::said_text))]
+fn put_said<W: Sink>(
+    sink: &mut W,
+    style: Style,
+    header: &Result<Header, FormatFault>,
+    content: &Content,
+    said: Said,
+) -> Result<(), WriteFailed>
+    ensures { Wrote W.view sink.old sink.new
+        (in_style style (said_text header.now content.now (said_of said))) result }
+{
+    match said {
+        Said::Words(text) => put_text(sink, style, text.as_bytes()),
+        Said::With(text, part) => put_with_part(sink, style, header, content, text, part),
+        Said::WithBoth(text, first, second) => {
+            let (words, rest) = cut_at_blank(text);
+            put_text(sink, style, words.as_bytes())?;
+            put_part(sink, style, header, content, first)?;
+            put_with_part(sink, style, header, content, rest, second)
+        }
+    }
+}
+
+/// Writes `text` with the part in place of its first blank `_`. `content` is that of the field that it is about, and `header` has the names
+/// of variables. Errs if the sink fails.
+#[tactic(auto, using(crate::proofs::Styled::styled), unfolding(crate::specs::Messages::with_part))]
+fn put_with_part<W: Sink>(
+    sink: &mut W,
+    style: Style,
     header: &Result<Header, FormatFault>,
     content: &Content,
     text: &str,
-    parts: &[Part],
+    part: Part,
 ) -> Result<(), WriteFailed>
     ensures { Wrote W.view sink.old sink.new
-        (with_parts text.now (map (part_text header.now content.now) (parts_of parts.now))) result }
+        (in_style style (with_part header.now content.now text.now part)) result }
 {
-    let Some((part, others)) = parts.split_first() else {
-        return put(sink, text.as_bytes());
-    };
-    if let Part::Nothing = part {
-        return put(sink, text.as_bytes());
-    }
     let (words, rest) = cut_at_blank(text);
-    put(sink, words.as_bytes())?;
-    put_part(sink, header, content, *part)?;
-    put_with_parts(sink, header, content, rest, others)
+    put_text(sink, style, words.as_bytes())?;
+    put_part(sink, style, header, content, part)?;
+    put_text(sink, style, rest.as_bytes())
 }
 
 /// Returns the text before its first blank `_`, and the text after it. Without a blank, returns the whole text and an empty one.
@@ -96,25 +189,25 @@ fn cut_at_blank(text: &str) -> (&str, &str)
     text.split_once('_').unwrap_or((text, ""))
 }
 
-/// Writes one part, or nothing for `Nothing`. `content` is that of the field that the message is about, and `header` has the names of
-/// variables. Errs if the sink fails.
-#[tactic(auto, using(devices::proofs::Writes::writes))]
+/// Writes one part. `content` is that of the field that it is about, and `header` has the names of variables. Errs if the sink fails.
+#[tactic(auto, using(crate::proofs::Styled::styled))]
 fn put_part<W: Sink>(
     sink: &mut W,
+    style: Style,
     header: &Result<Header, FormatFault>,
     content: &Content,
     part: Part,
 ) -> Result<(), WriteFailed>
-    ensures { Wrote W.view sink.old sink.new (part_text header.now content.now part) result }
+    ensures { Wrote W.view sink.old sink.new
+        (in_style style (part_text header.now content.now part)) result }
 {
     match part {
         Part::Number(n) => put_decimal(sink, n as u128),
         Part::Long(n) => put_decimal(sink, n),
-        Part::TypeCode(code) => put_type(sink, &Content::Number(code)),
-        Part::FieldContent => put_content(sink, content),
-        Part::FieldType => put_type(sink, content),
-        Part::FieldZeros => put_zeros(sink, content),
-        Part::OfBlock(block) => put_block_path(sink, header, block),
-        Part::Nothing => Ok(()),
+        Part::TypeCode(code) => put_type(sink, style, &Content::Number(code)),
+        Part::FieldContent => put_content(sink, style, content),
+        Part::FieldType => put_type(sink, style, content),
+        Part::FieldZeros => put_zeros(sink, style, content),
+        Part::OfBlock(block) => put_block_path(sink, style, header, block),
     }
 }

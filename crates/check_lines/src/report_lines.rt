@@ -1,15 +1,21 @@
-//! The lines of a report.
+//! The lines of a report, and its lines in JSON.
 
 ghost use Rattle.std.specs.Prelude.{◌≡◌, IfOk};
 ghost use Rattle.cli_base.specs.Arguments.{texts_of};
 ghost use Rattle.devices.specs.code.SinkWrites.{Wrote};
-ghost use Rattle.check_lines.specs.Lines.{gravest, has_reported, is_at_level, is_ignored, is_reported, line_if, lines};
+ghost use Rattle.check_lines.specs.Json.{json_lines};
+ghost use Rattle.check_lines.specs.Lines.{gravest, has_reported, if_reported, is_at_level, is_ignored, is_reported, lines, told_with};
+ghost use Rattle.check_lines.specs.Words.{each_of};
 ghost use Rattle.check_lines.specs.code.Filters.{filter_for};
-ghost use Rattle.check_lines.specs.code.Names.{IsPassed};
+ghost use Rattle.check_lines.specs.code.Names.{IsPassed, known};
+ghost use Rattle.check_lines.specs.code.Styles.{finding_in, told_in};
 
 use crate::filter::FilterOptions;
+use crate::known_names::Names;
 use crate::line::put_line;
+use crate::object::put_object;
 use crate::passed::{Passed, nothing_passed, passed_up_to};
+use crate::style::Style;
 use crate::words::kind_word;
 use devices::{Sink, WriteFailed};
 use nc_findings::{Finding, Kind, Listing, Report, Severity};
@@ -20,7 +26,7 @@ use nc_findings::{Finding, Kind, Listing, Report, Severity};
 /// # Errors
 ///
 /// The sink failed. It took some prefix of the lines.
-#[tactic(auto, using(devices::proofs::Writes::writes))]
+#[tactic(auto, unfolding(crate::specs::code::Styles::told_in))]
 pub fn put_lines<W: Sink>(
     sink: &mut W,
     file: &[u8],
@@ -30,20 +36,58 @@ pub fn put_lines<W: Sink>(
     ensures { Wrote W.view sink.old sink.new
         (lines (filter_for filter.now) file.now report.now.listing report.now.findings) result }
 {
+    put_findings(sink, Style::Line, file, report, filter)
+}
+
+/// Writes a JSON object, and a line feed, for each finding of a report that `filter` lets be reported, in the order of the report. Each has
+/// the path `file` of the file, the offset, the severity and the kind of the finding, its path as in its line, and what is found and
+/// expected where the line tells it. `file` has to be UTF-8, so that the objects are.
+///
+/// # Errors
+///
+/// The sink failed. It took some prefix of the lines.
+#[tactic(auto, unfolding(crate::specs::code::Styles::told_in))]
+pub fn put_json_lines<W: Sink>(
+    sink: &mut W,
+    file: &[u8],
+    report: &Report,
+    filter: &FilterOptions<'_>,
+) -> Result<(), WriteFailed>
+    ensures { Wrote W.view sink.old sink.new
+        (json_lines (filter_for filter.now) file.now report.now.listing report.now.findings) result }
+{
+    put_findings(sink, Style::Json, file, report, filter)
+}
+
+/// Writes the line of each finding of a report that `filter` lets be reported, or its object, as `style` says. `file` is the path of the
+/// file. Errs if the sink fails.
+#[tactic(auto, using(devices::proofs::Writes::writes))]
+fn put_findings<W: Sink>(
+    sink: &mut W,
+    style: Style,
+    file: &[u8],
+    report: &Report,
+    filter: &FilterOptions<'_>,
+) -> Result<(), WriteFailed>
+    ensures { Wrote W.view sink.old sink.new (each_of
+        (if_reported (finding_in style file.now report.now.listing) (filter_for filter.now))
+        report.now.findings) result }
+{
     let findings = report.findings.as_slice();
     let mut passed = nothing_passed();
     for finding in findings {
-        passed = put_line_if(sink, file, &report.listing, filter, passed, finding)?;
+        passed = put_if_reported(sink, style, file, &report.listing, filter, passed, finding)?;
     }
     Ok(())
 }
 
-/// If `filter` lets a finding be reported, writes its line, and returns how many fields there are up to its own, and the names that are
-/// known after them ([`passed_up_to`]). Otherwise writes nothing, and returns `passed`, which an earlier finding has left. The line begins
-/// with the path `file`. Needs a `passed` of this listing. Errs if the sink fails.
+/// If `filter` lets a finding be reported, writes its line or its object, as `style` says, and returns how many fields there are up to its
+/// own, and the names that are known after them ([`passed_up_to`]). Otherwise writes nothing, and returns `passed`, which an earlier
+/// finding has left. `file` is the path of the file. Needs a `passed` of this listing. Errs if the sink fails.
 #[tactic(auto, using(devices::proofs::Writes::writes))]
-fn put_line_if<'a, W: Sink>(
+fn put_if_reported<'a, W: Sink>(
     sink: &mut W,
+    style: Style,
     file: &[u8],
     listing: &'a Listing,
     filter: &FilterOptions<'_>,
@@ -51,16 +95,36 @@ fn put_line_if<'a, W: Sink>(
     finding: &Finding,
 ) -> Result<Passed<'a>, WriteFailed>
     requires { IsPassed listing.now.entries passed }
-    ensures text { Wrote W.view sink.old sink.new
-        (line_if (filter_for filter.now) file.now listing.entry.now finding.now) result }
+    ensures text { Wrote W.view sink.old sink.new (if_reported
+        (finding_in style file.now listing.entry.now) (filter_for filter.now) finding.now) result }
     ensures passed { IfOk result (IsPassed listing.entry.now.entries) }
 {
     if !is_reported(filter, finding) {
         return Ok(passed);
     }
     let passed = passed_up_to(passed, listing.entries.as_slice(), finding.field);
-    put_line(sink, file, listing, passed.names, finding)?;
+    put_finding(sink, style, file, listing, passed.names, finding)?;
     Ok(passed)
+}
+
+/// Writes the line of a finding or its object, as `style` says, and a line feed after it. `file` is the path of the file, `listing` has the
+/// header's fields, and `names` are the names of what the finding's field belongs to, as far as they are known. Errs if the sink fails.
+#[tactic(auto, unfolding(crate::specs::code::Styles::told_in))]
+fn put_finding<W: Sink>(
+    sink: &mut W,
+    style: Style,
+    file: &[u8],
+    listing: &Listing,
+    names: Names<'_>,
+    finding: &Finding,
+) -> Result<(), WriteFailed>
+    ensures { Wrote W.view sink.old sink.new
+        (told_in style (told_with file.now listing.now (known names.entry) finding.now)) result }
+{
+    match style {
+        Style::Line => put_line(sink, file, listing, names, finding),
+        Style::Json => put_object(sink, file, listing, names, finding),
+    }
 }
 
 /// Returns the gravest severity of the findings that the filter lets be reported, or `None` if it lets none.

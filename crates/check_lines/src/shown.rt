@@ -1,15 +1,17 @@
-//! How a line shows the bytes of names and paths.
+//! How the bytes of names and paths are shown.
 
 ghost use Rattle.std.specs.Prelude.{◌≡◌, ◌≤◌};
 ghost use Rattle.std.specs.List.{list_all};
 ghost use Rattle.std.specs.Str.{is_utf8};
+ghost use Rattle.nc_types.specs.code.Quoted.{written};
 ghost use Rattle.devices.specs.code.SinkWrites.{Wrote};
 ghost use Rattle.check_lines.specs.Shown.{dots, shown, shown_byte, shown_name, shown_path, stays};
 ghost use Rattle.check_lines.specs.Words.{each_of};
+ghost use Rattle.check_lines.specs.code.Styles.{byte_in, each_in, in_style};
 
-use cdl_print::put_escaped;
+use crate::style::{Style, put_text};
 use devices::{Sink, WriteFailed, put};
-use nc_base::Quoting;
+use nc_base::{Escape, Quoting};
 use std::str;
 
 /// How bytes stand in a line.
@@ -33,14 +35,14 @@ const SHOWN_OF_LONG: usize = 64;
 /// Writes a name in quotes, with the escapes of a string in a dump. Bytes from 0x80 on are escaped in octal, unless the whole name is
 /// UTF-8. Of a name of more than 256 bytes, it writes only the first 64, those from 0x80 on in octal, and `...` after the quotes. Errs if
 /// the sink fails.
-#[tactic(auto, using(devices::proofs::Writes::writes), unfolding(crate::specs::Shown::shown_name))]
-pub(crate) fn put_name<W: Sink>(sink: &mut W, name: &[u8]) -> Result<(), WriteFailed>
-    ensures { Wrote W.view sink.old sink.new (shown_name name.now) result }
+#[tactic(auto, using(crate::proofs::Styled::styled), unfolding(crate::specs::Shown::shown_name))]
+pub(crate) fn put_name<W: Sink>(sink: &mut W, style: Style, name: &[u8]) -> Result<(), WriteFailed>
+    ensures { Wrote W.view sink.old sink.new (in_style style (shown_name name.now)) result }
 {
-    put(sink, b"\"")?;
-    put_shown(sink, Form::Quoted, LONGEST_SHOWN_NAME, name)?;
-    put(sink, b"\"")?;
-    put(sink, dots(LONGEST_SHOWN_NAME, name))
+    put_text(sink, style, b"\"")?;
+    put_shown(sink, style, Form::Quoted, LONGEST_SHOWN_NAME, name)?;
+    put_text(sink, style, b"\"")?;
+    put_text(sink, style, dots(LONGEST_SHOWN_NAME, name))
 }
 
 /// Writes a path as the lines of findings show it: without quotes, and with the escapes of a string in a dump for control characters and
@@ -50,11 +52,11 @@ pub(crate) fn put_name<W: Sink>(sink: &mut W, name: &[u8]) -> Result<(), WriteFa
 /// # Errors
 ///
 /// The sink failed. It took some prefix of the text.
-#[tactic(auto, using(devices::proofs::Writes::writes), unfolding(crate::specs::Shown::shown_path))]
+#[tactic(auto, using(devices::proofs::Writes::writes), unfolding(crate::specs::Shown::shown_path, crate::specs::code::Styles::in_style))]
 pub fn put_file_path<W: Sink>(sink: &mut W, file: &[u8]) -> Result<(), WriteFailed>
     ensures { Wrote W.view sink.old sink.new (shown_path file.now) result }
 {
-    put_shown(sink, Form::Bare, LONGEST_PATH, file)?;
+    put_shown(sink, Style::Line, Form::Bare, LONGEST_PATH, file)?;
     put(sink, dots(LONGEST_PATH, file))
 }
 
@@ -71,17 +73,19 @@ fn dots(longest: usize, bytes: &[u8]) -> &'static [u8]
 #[tactic(auto, unfolding(crate::specs::Shown::shown))]
 fn put_shown<W: Sink>(
     sink: &mut W,
+    style: Style,
     form: Form,
     longest: usize,
     bytes: &[u8],
 ) -> Result<(), WriteFailed>
     requires { 64 ≤ longest }
-    ensures { Wrote W.view sink.old sink.new (shown form longest bytes.now) result }
+    ensures { Wrote W.view sink.old sink.new
+        (in_style style (shown form longest bytes.now)) result }
 {
     if bytes.len() <= longest {
-        put_bytes(sink, form, !is_utf8(bytes), bytes)
+        put_bytes(sink, style, form, !is_utf8(bytes), bytes)
     } else {
-        put_bytes(sink, form, true, &bytes[..SHOWN_OF_LONG])
+        put_bytes(sink, style, form, true, &bytes[..SHOWN_OF_LONG])
     }
 }
 
@@ -89,16 +93,18 @@ fn put_shown<W: Sink>(
 /// needs one. If `in_octal` is true, bytes from 0x80 on are escaped in octal. Errs if the sink fails.
 fn put_bytes<W: Sink>(
     sink: &mut W,
+    style: Style,
     form: Form,
     in_octal: bool,
     bytes: &[u8],
 ) -> Result<(), WriteFailed>
-    ensures { Wrote W.view sink.old sink.new (each_of (shown_byte form in_octal) bytes.now) result }
+    ensures { Wrote W.view sink.old sink.new
+        (in_style style (each_of (shown_byte form in_octal) bytes.now)) result }
 {
     if all_stay(form, in_octal, bytes) {
-        put(sink, bytes)
+        put_text(sink, style, bytes)
     } else {
-        put_each(sink, form, in_octal, bytes)
+        put_each(sink, style, form, in_octal, bytes)
     }
 }
 
@@ -115,33 +121,53 @@ fn all_stay(form: Form, in_octal: bool, bytes: &[u8]) -> bool
 #[tactic(auto, using(devices::proofs::Writes::writes))]
 fn put_each<W: Sink>(
     sink: &mut W,
+    style: Style,
     form: Form,
     in_octal: bool,
     bytes: &[u8],
 ) -> Result<(), WriteFailed>
-    ensures { Wrote W.view sink.old sink.new (each_of (shown_byte form in_octal) bytes.now) result }
+    ensures { Wrote W.view sink.old sink.new
+        (each_in style (shown_byte form in_octal) bytes.now) result }
 {
     for b in bytes {
-        put_byte(sink, form, in_octal, *b)?;
+        put_byte(sink, style, form, in_octal, *b)?;
     }
     Ok(())
 }
 
-/// Writes a byte as it is if it needs no escape in a line of this form, in quotes or bare ([`stays`]): from 0x80 on it needs one only if
-/// `in_octal` is true. Otherwise writes its escape: in octal from 0x80 on (`\303`), and below that the escape of a string in a dump (`\n`).
-/// Errs if the sink fails.
-fn put_byte<W: Sink>(sink: &mut W, form: Form, in_octal: bool, b: u8) -> Result<(), WriteFailed>
-    ensures { Wrote W.view sink.old sink.new (shown_byte form in_octal b) result }
+/// Writes a byte with the escape that it needs in this form, in quotes or bare, if it needs one ([`escape_of`]). Errs if the sink fails.
+#[tactic(auto, unfolding(crate::specs::code::Styles::byte_in))]
+fn put_byte<W: Sink>(
+    sink: &mut W,
+    style: Style,
+    form: Form,
+    in_octal: bool,
+    b: u8,
+) -> Result<(), WriteFailed>
+    ensures { Wrote W.view sink.old sink.new (byte_in style (shown_byte form in_octal) b) result }
+{
+    match escape_of(form, in_octal, b) {
+        Escape::Plain => put_text(sink, style, &[b]),
+        Escape::Backslash(c) => put_text(sink, style, &[b'\\', c]),
+        Escape::Octal => put_text(
+            sink,
+            style,
+            &[b'\\', b'0' + b / 64, b'0' + b / 8 % 8, b'0' + b % 8],
+        ),
+    }
+}
+
+/// Returns how a byte is shown in this form, in quotes or bare: as it is if it needs no escape ([`stays`]), otherwise in octal from 0x80 on
+/// (`\303`), and below that with the escape of a string in a dump (`\n`).
+fn escape_of(form: Form, in_octal: bool, b: u8) -> Escape
+    ensures { written result b ≡ shown_byte form in_octal b }
 {
     if stays(form, in_octal, b) {
-        put(sink, &[b])
+        Escape::Plain
     } else if b >= 0x80 {
-        put(
-            sink,
-            &[b'\\', b'0' + b / 64, b'0' + b / 8 % 8, b'0' + b % 8],
-        )
+        Escape::Octal
     } else {
-        put_escaped(sink, Quoting::InString, &[b])
+        Quoting::InString.escape(b)
     }
 }
 

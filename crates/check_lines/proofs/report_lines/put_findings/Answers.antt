@@ -2,7 +2,7 @@ use Rattle.std.proofs.Common.{rules}
 use Rattle.std.proofs.lemmas.List.{get_or_default}
 use Rattle.std.proofs.lemmas.Result.{err_from_is_err_and}
 use Rattle.devices.proofs.Writes.{partway_next, wrote_next}
-use Rattle.check_lines.proofs.report_lines.put_lines.Goals as goal
+use Rattle.check_lines.proofs.report_lines.put_findings.Goals as goal
 
 pub loop-finding-preserved : goal.loop-finding-preserved
 loop-finding-preserved g c = record {
