@@ -7,6 +7,8 @@ mod faults;
 #[cfg(test)]
 mod headers;
 #[cfg(test)]
+mod json_lines;
+#[cfg(test)]
 mod layouts;
 #[cfg(test)]
 mod lines;
