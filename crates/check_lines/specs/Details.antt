@@ -1,8 +1,8 @@
 -- Definition. What is said of what is found, and of what is expected in its place: the message of each fact.
-use Rattle.std.specs.Prelude.{ℕ, ◌-◌, ◌^◌, ◌==◌, ◌&&◌, Bool, true, false, nat_lt, if◌then◌else◌, List, length, codes, Option, Some, None, slice_get}
+use Rattle.std.specs.Prelude.{ℕ, ◌-◌, ◌^◌, ◌==◌, ◌&&◌, Bool, true, false, nat_lt, if◌then◌else◌, List, length, codes, Option, Some, None, Result, slice_get}
 use Rattle.std.specs.Option.{option_map_or}
 use Rattle.nc_types.specs.Bytes.{Bytes}
-use Rattle.nc_base.specs.declared.fault.FormatFault.{FormatFault}
+use Rattle.nc_base.specs.declared.{fault.FormatFault.FormatFault, header.Header.Header}
 use Rattle.nc_base.specs.declared.fault.FormatFault.TheVariants as fault
 use Rattle.nc_base.specs.Grammar.{attribute_tag, dimension_tag, variable_tag}
 use Rattle.nc_findings.specs.declared.{listing.Listing.Listing, place.Owner.Owner, place.FieldKind.FieldKind, entry.Content.Content, entry.Entry.Entry}
@@ -17,7 +17,7 @@ use Rattle.nc_findings.specs.declared.finding.Fact.{Fact}
 use Rattle.nc_findings.specs.declared.finding.Fact.TheVariants as fact
 use Rattle.nc_findings.specs.Limits.{highest_rank, large_count, longest_name}
 use Rattle.check_lines.specs.declared.message.Part.TheVariants.{Number, Long, TypeCode, FieldContent, FieldType, FieldZeros, OfBlock}
-use Rattle.check_lines.specs.Messages.{Message, nothing, found, instead, Said, words, with, with_both, expected_text, found_text}
+use Rattle.check_lines.specs.Messages.{Message, nothing, found, instead, Said, words, with, with_both}
 
 -- a number alone
 abbrev pub number : ℕ → Said
@@ -136,20 +136,8 @@ field_message l e (fact.Vsize size) = instead field_content (number size)
 field_message l e (fact.OddVsize size) = instead field_content (number size)
 field_message l e (fact.Layout x) = layout_message x
 
--- of a fact at a field; in the data, where there is none, only facts about the layout say more
-unfoldable pub message_at : Listing → Option Entry → Fact → Message
-message_at l (Some e) x = field_message l e x
-message_at l None (fact.Layout x) = layout_message x
-message_at l None x = nothing
-
--- the content of the field, if there is one
-unfoldable pub content_at : Option Entry → Content
-content_at (Some e) = e.content
-content_at None = content.Cut
-
--- what is found there, and what is expected, if the fact says it
-abbrev pub found_at : Listing → Option Entry → Fact → Option Bytes
-found_at l e x = found_text l.header (content_at e) (message_at l e x)
-
-abbrev pub expected_at : Listing → Option Entry → Fact → Option Bytes
-expected_at l e x = expected_text l.header (content_at e) (message_at l e x)
+-- what is found, or expected, of a fact at a field; in the data, where there is none, only facts about the layout say more
+unfoldable pub details : (Result Header FormatFault → Content → Message → Option Bytes) → Listing → Option Entry → Fact → Option Bytes
+details text l (Some e) x = text l.header e.content (field_message l e x)
+details text l None (fact.Layout x) = text l.header content.Cut (layout_message x)
+details text l None x = None

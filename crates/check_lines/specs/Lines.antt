@@ -10,7 +10,8 @@ use Rattle.nc_findings.specs.declared.layout_fact.LayoutFact.TheVariants as layo
 use Rattle.nc_findings.specs.Kinds.{kind_of, severity_of}
 use Rattle.nc_findings.specs.declared.finding.Fact.TheVariants as fact
 use Rattle.nc_findings.specs.declared.kind.Severity.TheVariants.{Error, Violation, Note}
-use Rattle.check_lines.specs.Details.{expected_at, found_at}
+use Rattle.check_lines.specs.Details.{details}
+use Rattle.check_lines.specs.Messages.{expected_text, found_text}
 use Rattle.check_lines.specs.Paths.{KnownNames, field_path, names_after, no_names, slab_path, var_path}
 use Rattle.check_lines.specs.Shown.{shown_path}
 use Rattle.check_lines.specs.Words.{each_of, kind_word, severity_word}
@@ -44,8 +45,8 @@ told_with file l names f = record {
   offset = f.offset;
   kind = kind_of f.fact;
   path = path l names (entry_of l f) f.fact;
-  found = found_at l (entry_of l f) f.fact;
-  expected = expected_at l (entry_of l f) f.fact;
+  found = details found_text l (entry_of l f) f.fact;
+  expected = details expected_text l (entry_of l f) f.fact;
 }
 
 -- the names that are known after the fields up to and including this one; in the data, none

@@ -2,7 +2,8 @@
 
 ghost use Rattle.std.specs.Prelude.{◌≡◌};
 ghost use Rattle.devices.specs.code.SinkWrites.{Wrote};
-ghost use Rattle.check_lines.specs.Details.{expected_at, field_message, found_at, message_at, owner_number, owner_number_at};
+ghost use Rattle.check_lines.specs.Details.{details, field_message, owner_number, owner_number_at};
+ghost use Rattle.check_lines.specs.Messages.{expected_text, found_text};
 ghost use Rattle.check_lines.specs.code.Names.{entry_in};
 ghost use Rattle.check_lines.specs.code.Styles.{end_in};
 ghost use Rattle.check_lines.specs.code.Written.{message_of};
@@ -20,7 +21,7 @@ use nc_findings::{Content, Entry, Fact, HIGHEST_RANK, LARGE_COUNT, LONGEST_NAME,
 /// Writes what is found and what is expected: the end of a finding's line, such as `: found 3, expected 0`, or members of its object.
 /// Nothing if the fact says no more. `listing` has the header's fields, and `entry` is the finding's field. With `None`, for a finding in
 /// the data, it writes only a fact about the file's layout. Errs if the sink fails.
-#[tactic(auto, unfolding(crate::specs::Details::content_at))]
+#[tactic(auto, using(crate::proofs::Styled::styled), unfolding(crate::specs::Details::details, crate::specs::code::Styles::end_in))]
 pub(crate) fn put_details<W: Sink>(
     sink: &mut W,
     style: Style,
@@ -29,25 +30,19 @@ pub(crate) fn put_details<W: Sink>(
     fact: Fact,
 ) -> Result<(), WriteFailed>
     ensures { Wrote W.view sink.old sink.new (end_in style
-        (found_at listing.now (entry_in entry.entry) fact)
-        (expected_at listing.now (entry_in entry.entry) fact)) result }
+        (details found_text listing.now (entry_in entry.entry) fact)
+        (details expected_text listing.now (entry_in entry.entry) fact)) result }
 {
-    let message = message_at(listing, entry, fact);
-    match entry {
-        Some(entry) => put_message(sink, style, &listing.header, &entry.content, message),
-        None => put_message(sink, style, &listing.header, &Content::Cut, message),
-    }
-}
-
-/// Returns the message for a fact at the field `entry` of the listing (the fields of the header), or, with `None`, for a fact in the data.
-#[tactic(auto, unfolding(crate::specs::Details::message_at))]
-fn message_at(listing: &Listing, entry: Option<&Entry>, fact: Fact) -> Message
-    ensures { message_of result ≡ message_at listing.now (entry_in entry.entry) fact }
-{
+    let header = &listing.header;
     match (entry, fact) {
-        (Some(entry), _) => field_message(listing, entry, fact),
-        (None, Fact::Layout(fact)) => layout_message(fact),
-        (None, _) => Nothing,
+        (Some(entry), _) => {
+            let message = field_message(listing, entry, fact);
+            put_message(sink, style, header, &entry.content, message)
+        }
+        (None, Fact::Layout(fact)) => {
+            put_message(sink, style, header, &Content::Cut, layout_message(fact))
+        }
+        (None, _) => Ok(()),
     }
 }
 

@@ -72,38 +72,14 @@ pub(crate) fn put_message<W: Sink>(
         (found_text header.now content.now (message_of message))
         (expected_text header.now content.now (message_of message))) result }
 {
+    let (word, name) = (b": found ".as_slice(), b",\"found\":\"".as_slice());
     match message {
         Message::Nothing => Ok(()),
-        Message::Found(found) => {
-            put_said_after(
-                sink,
-                style,
-                b": found ",
-                b",\"found\":\"",
-                header,
-                content,
-                found,
-            )
-        }
+        Message::Found(found) => put_said_after(sink, style, word, name, header, content, found),
         Message::Instead(found, expected) => {
-            put_said_after(
-                sink,
-                style,
-                b": found ",
-                b",\"found\":\"",
-                header,
-                content,
-                found,
-            )?;
-            put_said_after(
-                sink,
-                style,
-                b", expected ",
-                b",\"expected\":\"",
-                header,
-                content,
-                expected,
-            )
+            put_said_after(sink, style, word, name, header, content, found)?;
+            let (word, name) = (b", expected ".as_slice(), b",\"expected\":\"".as_slice());
+            put_said_after(sink, style, word, name, header, content, expected)
         }
     }
 }

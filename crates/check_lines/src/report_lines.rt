@@ -4,14 +4,13 @@ ghost use Rattle.std.specs.Prelude.{◌≡◌, IfOk};
 ghost use Rattle.cli_base.specs.Arguments.{texts_of};
 ghost use Rattle.devices.specs.code.SinkWrites.{Wrote};
 ghost use Rattle.check_lines.specs.Json.{json_lines};
-ghost use Rattle.check_lines.specs.Lines.{gravest, has_reported, if_reported, is_at_level, is_ignored, is_reported, lines, told_with};
+ghost use Rattle.check_lines.specs.Lines.{gravest, has_reported, if_reported, is_at_level, is_ignored, is_reported, lines};
 ghost use Rattle.check_lines.specs.Words.{each_of};
 ghost use Rattle.check_lines.specs.code.Filters.{filter_for};
-ghost use Rattle.check_lines.specs.code.Names.{IsPassed, known};
-ghost use Rattle.check_lines.specs.code.Styles.{finding_in, told_in};
+ghost use Rattle.check_lines.specs.code.Names.{IsPassed};
+ghost use Rattle.check_lines.specs.code.Styles.{finding_in};
 
 use crate::filter::FilterOptions;
-use crate::known_names::Names;
 use crate::line::put_line;
 use crate::object::put_object;
 use crate::passed::{Passed, nothing_passed, passed_up_to};
@@ -84,7 +83,7 @@ fn put_findings<W: Sink>(
 /// If `filter` lets a finding be reported, writes its line or its object, as `style` says, and returns how many fields there are up to its
 /// own, and the names that are known after them ([`passed_up_to`]). Otherwise writes nothing, and returns `passed`, which an earlier
 /// finding has left. `file` is the path of the file. Needs a `passed` of this listing. Errs if the sink fails.
-#[tactic(auto, using(devices::proofs::Writes::writes))]
+#[tactic(auto, using(devices::proofs::Writes::writes), unfolding(crate::specs::code::Styles::told_in))]
 fn put_if_reported<'a, W: Sink>(
     sink: &mut W,
     style: Style,
@@ -103,28 +102,11 @@ fn put_if_reported<'a, W: Sink>(
         return Ok(passed);
     }
     let passed = passed_up_to(passed, listing.entries.as_slice(), finding.field);
-    put_finding(sink, style, file, listing, passed.names, finding)?;
-    Ok(passed)
-}
-
-/// Writes the line of a finding or its object, as `style` says, and a line feed after it. `file` is the path of the file, `listing` has the
-/// header's fields, and `names` are the names of what the finding's field belongs to, as far as they are known. Errs if the sink fails.
-#[tactic(auto, unfolding(crate::specs::code::Styles::told_in))]
-fn put_finding<W: Sink>(
-    sink: &mut W,
-    style: Style,
-    file: &[u8],
-    listing: &Listing,
-    names: Names<'_>,
-    finding: &Finding,
-) -> Result<(), WriteFailed>
-    ensures { Wrote W.view sink.old sink.new
-        (told_in style (told_with file.now listing.now (known names.entry) finding.now)) result }
-{
     match style {
-        Style::Line => put_line(sink, file, listing, names, finding),
-        Style::Json => put_object(sink, file, listing, names, finding),
+        Style::Line => put_line(sink, file, listing, passed.names, finding)?,
+        Style::Json => put_object(sink, file, listing, passed.names, finding)?,
     }
+    Ok(passed)
 }
 
 /// Returns the gravest severity of the findings that the filter lets be reported, or `None` if it lets none.

@@ -78,17 +78,10 @@ fn put_json_byte<W: Sink>(sink: &mut W, b: u8) -> Result<(), WriteFailed>
         0x0c => put(sink, b"\\f"),
         b'\r' => put(sink, b"\\r"),
         b'"' | b'\\' => put(sink, &[b'\\', b]),
-        _ if b < 0x20 => put(
-            sink,
-            &[
-                b'\\',
-                b'u',
-                b'0',
-                b'0',
-                hex_digit(b / 16),
-                hex_digit(b % 16),
-            ],
-        ),
+        _ if b < 0x20 => {
+            let (high, low) = (hex_digit(b / 16), hex_digit(b % 16));
+            put(sink, &[b'\\', b'u', b'0', b'0', high, low])
+        }
         _ => put(sink, &[b]),
     }
 }
