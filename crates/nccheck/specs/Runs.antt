@@ -13,7 +13,8 @@ use Rattle.devices.specs.declared.fault.OpenFailed.TheVariants.{NotFound}
 use Rattle.nc_report.specs.Reports.{IsReport}
 use Rattle.nc_findings.specs.declared.listing.Listing.{Listing}
 use Rattle.nc_findings.specs.declared.{finding.Finding.Finding, report.Report.Report}
-use Rattle.check_lines.specs.Lines.{Filter, gravest, json_lines, lines}
+use Rattle.check_lines.specs.Json.{json_lines}
+use Rattle.check_lines.specs.Lines.{Filter, gravest, lines}
 use Rattle.nccheck.specs.CommandLine.{Asked, asked_by}
 use Rattle.nccheck.specs.Faults.{file_line, flush_line, refusal_lines}
 use Rattle.nccheck.specs.Formats.{format_line, format_of}
