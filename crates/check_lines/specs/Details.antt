@@ -115,9 +115,16 @@ owner_number (owner.VarAtt i k) = k
 abbrev pub owner_number_at : List Entry → ℕ → ℕ
 owner_number_at entries i = option_map_or (λ (e : Entry). owner_number e.place.owner) (slice_get entries i) 0
 
+-- of a fact in the data: about the layout, or that an HDF5 file of n bytes ends too early
+abbrev pub data_message : Fact → Message
+data_message (fact.Layout x) = layout_message x
+data_message (fact.Hdf5Truncated n end) = instead (with (codes "_ bytes") (Number n)) (with (codes "at least _") (Number end))
+data_message x = nothing
+
 abbrev pub field_message : Listing → Entry → Fact → Message
 field_message l e (fact.Fault fault) = fault_message l e fault
-field_message l e fact.Hdf5 = found field_content
+field_message l e fact.Hdf5 = found (words (codes "0x894844460d0a1a0a"))
+field_message l e (fact.Hdf5Truncated n end) = data_message (fact.Hdf5Truncated n end)
 field_message l e fact.Gzip = found (words (codes "0x1f8b"))
 field_message l e fact.EmptyFile = found (words (codes "0 bytes"))
 field_message l e fact.NameCharacters = nothing
@@ -136,8 +143,7 @@ field_message l e (fact.Vsize size) = instead field_content (number size)
 field_message l e (fact.OddVsize size) = instead field_content (number size)
 field_message l e (fact.Layout x) = layout_message x
 
--- what is found, or expected, of a fact at a field; in the data, where there is none, only facts about the layout say more
+-- what is found, or expected, of a fact at a field, or in the data
 unfoldable pub details : (Result Header FormatFault → Content → Message → Option Bytes) → Listing → Option Entry → Fact → Option Bytes
 details text l (Some e) x = text l.header e.content (field_message l e x)
-details text l None (fact.Layout x) = text l.header content.Cut (layout_message x)
-details text l None x = None
+details text l None x = text l.header content.Cut (data_message x)

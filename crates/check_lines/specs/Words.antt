@@ -2,7 +2,7 @@
 use Rattle.std.specs.Prelude.{List, codes, map}
 use Rattle.nc_types.specs.Bytes.{Bytes, concat_parts}
 use Rattle.nc_findings.specs.declared.{kind.Kind.Kind, kind.Severity.Severity}
-use Rattle.nc_findings.specs.declared.kind.Kind.TheVariants.{NotNetcdf, Hdf5, Gzip, EmptyFile, UnknownVersion, HeaderTruncated, BadTag, BadCount, BadName, NameCharacters, FloatingType, BadType, BadShape, TwoRecordDims, TooLarge, BadOffset, LargeCount, Streaming, UnusedRecords, EmptyList, LongName, DuplicateName, NotNfc, Padding, EmptyAttribute, TrailingNul, FillValue, HighRank, Vsize, OddVsize, LargeVariable, BeginInHeader, Overlap, Unpadded, Order, AfterRecords, RecordPlace, Gap, Missing, EndPadding, Trailing}
+use Rattle.nc_findings.specs.declared.kind.Kind.TheVariants.{NotNetcdf, Hdf5, Hdf5Truncated, Gzip, EmptyFile, UnknownVersion, HeaderTruncated, BadTag, BadCount, BadName, NameCharacters, FloatingType, BadType, BadShape, TwoRecordDims, TooLarge, BadOffset, LargeCount, Streaming, UnusedRecords, EmptyList, LongName, DuplicateName, NotNfc, Padding, EmptyAttribute, TrailingNul, FillValue, HighRank, Vsize, OddVsize, LargeVariable, BeginInHeader, Overlap, Unpadded, Order, AfterRecords, RecordPlace, Gap, Missing, EndPadding, Trailing}
 use Rattle.nc_findings.specs.declared.kind.Severity.TheVariants.{Error, Violation, Note}
 
 unfoldable pub severity_word : Severity → Bytes
@@ -13,6 +13,7 @@ severity_word Note = codes "note"
 unfoldable pub kind_word : Kind → Bytes
 kind_word NotNetcdf = codes "not-netcdf"
 kind_word Hdf5 = codes "hdf5"
+kind_word Hdf5Truncated = codes "hdf5-truncated"
 kind_word Gzip = codes "gzip"
 kind_word EmptyFile = codes "empty-file"
 kind_word UnknownVersion = codes "unknown-version"

@@ -2,7 +2,7 @@
 
 ghost use Rattle.std.specs.Prelude.{◌≡◌};
 ghost use Rattle.devices.specs.code.SinkWrites.{Wrote};
-ghost use Rattle.check_lines.specs.Details.{details, field_message, owner_number, owner_number_at};
+ghost use Rattle.check_lines.specs.Details.{data_message, details, field_message, owner_number, owner_number_at};
 ghost use Rattle.check_lines.specs.Messages.{expected_text, found_text};
 ghost use Rattle.check_lines.specs.code.Names.{entry_in};
 ghost use Rattle.check_lines.specs.code.Styles.{end_in};
@@ -19,8 +19,8 @@ use devices::{Sink, WriteFailed};
 use nc_findings::{Content, Entry, Fact, HIGHEST_RANK, LARGE_COUNT, LONGEST_NAME, Listing, Owner};
 
 /// Writes what is found and what is expected: the end of a finding's line, such as `: found 3, expected 0`, or members of its object.
-/// Nothing if the fact says no more. `listing` has the header's fields, and `entry` is the finding's field. With `None`, for a finding in
-/// the data, it writes only a fact about the file's layout. Errs if the sink fails.
+/// Nothing if the fact says no more. `listing` has the header's fields, and `entry` is the finding's field, or `None` for a finding in the
+/// data. Errs if the sink fails.
 #[tactic(auto, using(crate::proofs::Styled::styled), unfolding(crate::specs::Details::details, crate::specs::code::Styles::end_in))]
 pub(crate) fn put_details<W: Sink>(
     sink: &mut W,
@@ -34,15 +34,12 @@ pub(crate) fn put_details<W: Sink>(
         (details expected_text listing.now (entry_in entry.entry) fact)) result }
 {
     let header = &listing.header;
-    match (entry, fact) {
-        (Some(entry), _) => {
+    match entry {
+        Some(entry) => {
             let message = field_message(listing, entry, fact);
             put_message(sink, style, header, &entry.content, message)
         }
-        (None, Fact::Layout(fact)) => {
-            put_message(sink, style, header, &Content::Cut, layout_message(fact))
-        }
-        (None, _) => Ok(()),
+        None => put_message(sink, style, header, &Content::Cut, data_message(fact)),
     }
 }
 
@@ -52,7 +49,8 @@ fn field_message(listing: &Listing, entry: &Entry, fact: Fact) -> Message
 {
     match fact {
         Fact::Fault(fault) => fault_message(listing, entry, fault),
-        Fact::Hdf5 => Found(CONTENT),
+        Fact::Hdf5 => Found(Words("0x894844460d0a1a0a")),
+        Fact::Hdf5Truncated { .. } | Fact::Layout(_) => data_message(fact),
         Fact::Gzip => Found(Words("0x1f8b")),
         Fact::EmptyFile => Found(Words("0 bytes")),
         Fact::NameCharacters | Fact::NotNfc | Fact::TrailingNul => Nothing,
@@ -74,7 +72,20 @@ fn field_message(listing: &Listing, entry: &Entry, fact: Fact) -> Message
         Fact::Vsize { expected } | Fact::OddVsize { expected } => {
             Instead(CONTENT, With("_", Number(expected)))
         }
+    }
+}
+
+/// Returns the message for a fact in the data: about the layout, or that an HDF5 file ends too early.
+fn data_message(fact: Fact) -> Message
+    ensures { message_of result ≡ data_message fact }
+{
+    match fact {
         Fact::Layout(fact) => layout_message(fact),
+        Fact::Hdf5Truncated { file_len, end } => Instead(
+            With("_ bytes", Number(file_len)),
+            With("at least _", Number(end)),
+        ),
+        _ => Nothing,
     }
 }
 

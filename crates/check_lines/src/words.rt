@@ -25,6 +25,7 @@ pub fn kind_word(kind: Kind) -> &'static str
     match kind {
         Kind::NotNetcdf => "not-netcdf",
         Kind::Hdf5 => "hdf5",
+        Kind::Hdf5Truncated => "hdf5-truncated",
         Kind::Gzip => "gzip",
         Kind::EmptyFile => "empty-file",
         Kind::UnknownVersion => "unknown-version",

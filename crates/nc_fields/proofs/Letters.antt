@@ -1,5 +1,5 @@
 -- The letters at the start of a file, of which fewer than three may be there.
-use Rattle.nc_fields.proofs.Prelude.{take_min, drop_min, bytes_eq, Magic, Caused, Reads, hdf5_signature, kept_letters, kept-then, Ghosts, Bytes, Part, bytes, checked, Outcome, with_rest, run, left_after, FormatFault, HeaderTruncated, NotNetcdf, Read, left, HeadFault, Window, Format, OutOfMemory, ReadFailed, Entry, Content, Place, Reader, PendingField, entry_of, Checked, IsStart, ListsCut, with_fault, OnTrue, OnTrue_at, OnTrue_from, leb-true, leb-false, Kept, Step, listed, next_of, source_of, seen_by, Lists, shorter, left_after-ok, ◌≡◌, ℕ, ◌<◌, ◌≤◌, min, Bool, true, cond, nat_lt, if◌then◌else◌, List, [], ◌∷◌, None, ◌-◌, length, take, drop, length-take, map, ◌++◌, Result, Ok, Err, subst, refl, sym, ap, ◌∙◌, arith, take_all, codes}
+use Rattle.nc_fields.proofs.Prelude.{take_min, drop_min, bytes_eq, Magic, Ghosts, Bytes, Part, bytes, checked, Outcome, with_rest, run, left_after, FormatFault, HeaderTruncated, NotNetcdf, Read, left, HeadFault, Window, Format, OutOfMemory, ReadFailed, Entry, Content, Place, Reader, PendingField, entry_of, Checked, IsStart, ListsCut, with_fault, OnTrue_at, OnTrue_from, leb-true, leb-false, listed, source_of, seen_by, left_after-ok, ◌≡◌, ℕ, ◌<◌, ◌≤◌, min, Bool, true, cond, nat_lt, if◌then◌else◌, List, [], ◌∷◌, None, ◌-◌, length, take, drop, map, ◌++◌, Result, Ok, Err, subst, refl, sym, ap, ◌∙◌, arith, take_all, codes}
 use Rattle.std.proofs.lemmas.Bool.Decides.{nat_tests}
 use Rattle.std.proofs.lemmas.Grind.{common_steps}
 use Rattle.std.specs.Cmp.Lexicographic.{bytes_decides}
@@ -18,7 +18,7 @@ letters_part = checked (λ letters. bytes_eq letters (codes "CDF")) NotNetcdf (b
 abbrev pub letters_place : Place
 letters_place = record { owner = owner.Header; field = field.Magic }
 
-letters-field : IsField 3 letters_part
+pub letters-field : IsField 3 letters_part
 letters-field = decoded-field letters_in (λ letters. letters) (bytes 3 NotNetcdf) 3 (bytes-field 3 NotNetcdf)
 
 -- what is answered
@@ -39,18 +39,14 @@ unfolding left_after
 judged-left y rest = grind arith
 
 -- reading goes on after the letters, or ends where there are fewer
-letters-run : (from : Bytes) → run letters_part from ≡ with_rest (letters_in (take 3 from)) (drop 3 from)
+pub letters-run : (from : Bytes) → run letters_part from ≡ with_rest (letters_in (take 3 from)) (drop 3 from)
 unfolding run
 letters-run from =
     let few = few-letters from in let all = take_all 3 from in grind (arith, common_steps, leb-true, leb-false)
 
--- fewer than three bytes are kept as they are
-few-kept : (from : Bytes) → length from < 3 → kept_letters from ≡ from
-few-kept from few =
-    let same = (bytes_decides hdf5_signature (take 8 from)).0 in grind (arith, take_all 3 from, length-take 8 from)
-
-letters-content : (from : Bytes) (b : Bool) → nat_lt (length from) 3 ≡ b → ◌≡◌ {A = Content} (content.Bytes (kept_letters from)) (cond b (content.Bytes from) (content.Bytes (kept_letters from)))
-letters-content from b is = grind (arith, few-kept, nat_tests)
+-- what is listed of them, whether all three are there or not
+pub letters-content : (from : Bytes) (b : Bool) → nat_lt (length from) 3 ≡ b → ◌≡◌ {A = Content} (content.Bytes (take 3 from)) (cond b (content.Bytes from) (content.Bytes (take 3 from)))
+letters-content from b is = grind (arith, take_all 3 from, nat_tests)
 
 -- as many of them as there are are read
 letters-there : (from : Bytes) → run (bytes (min 3 (length from)) HeaderTruncated) from ≡ Ok (take 3 from, drop 3 from)
@@ -68,12 +64,11 @@ along from same le = omega (arith, le, letters-left from, ap (λ k. left_after (
 
 module _ {S : Type 0} {g : Ghosts S} where
   -- the letters that are there were read, and listed with what they are judged to be
-  pub listed-letters : {old : Reader S g} {window : Window S g} {cut entries : List Entry} {start : PendingField} {n : ℕ} (is_hdf5 : Bool) {bs : Bytes} {found : Content}
-      {read : Result Bytes HeadFault}
-      → OnTrue g.is_transparent (is_hdf5 ≡ bytes_eq hdf5_signature (take 8 (left old.window))) → IsStart old.window letters_place 3 start → n ≡ min 3 (length (left old.window)) → Read old.window window (bytes n HeaderTruncated) read
-      → (read ≡ Ok bs) × (cut ≡ old.entries) → found ≡ content.Bytes (if is_hdf5 then hdf5_signature else bs) → entries ≡ cut ++ entry_of start found ∷ []
+  pub listed-letters : {old : Reader S g} {window : Window S g} {cut entries : List Entry} {start : PendingField} {n : ℕ} {bs : Bytes} {read : Result Bytes HeadFault}
+      → IsStart old.window letters_place 3 start → n ≡ min 3 (length (left old.window)) → Read old.window window (bytes n HeaderTruncated) read
+      → (read ≡ Ok bs) × (cut ≡ old.entries) → entries ≡ cut ++ entry_of start (content.Bytes bs) ∷ []
       → Checked old (record { window = window; entries = entries }) (Magic ∷ []) letters_part (answered (letters_in bs))
-  listed-letters {old = old} {window = window} {cut = cut} {entries = entries} {start = start} {n = n} is_hdf5 {bs = bs} {found = found} {read = read} hdf5 s same r of_cut is more = by-answer (letters_in bs) refl
+  listed-letters {old = old} {window = window} {cut = cut} {entries = entries} {start = start} {n = n} {bs = bs} {read = read} s same r of_cut more = by-answer (letters_in bs) refl
     where
       from : Bytes
       from = left old.window
@@ -84,8 +79,8 @@ module _ {S : Type 0} {g : Ghosts S} where
       got : g.is_transparent ≡ true → (bs ≡ take 3 from) × (left window ≡ drop 3 from)
       got known = same-parts _ _ _ _ (sym (letters-there from) ∙ ap (λ k. run (bytes k HeaderTruncated) from) (sym same) ∙ OnTrue_at known b.reads)
 
-      kept : g.is_transparent ≡ true → (if is_hdf5 then hdf5_signature else bs) ≡ kept_letters from
-      kept known = ap (λ b. if b then hdf5_signature else bs) (OnTrue_at known hdf5) ∙ ap (λ (xs : Bytes). if bytes_eq hdf5_signature (take 8 from) then hdf5_signature else xs) (got known).0
+      found : Content
+      found = content.Bytes bs
 
       reads : (y : Result Bytes FormatFault) → letters_in bs ≡ y → g.is_transparent ≡ true → run letters_part from ≡ with_rest y (left window)
       reads y e known = letters-run from ∙ sym (ap (λ rest. with_rest y rest) (got known).1 ∙ ap (λ y. with_rest y (drop 3 from)) (sym e ∙ ap letters_in (got known).0))
@@ -98,7 +93,7 @@ module _ {S : Type 0} {g : Ghosts S} where
           ≡ map seen_by old.entries ++ seen_at letters_place (length (source_of old.window).bytes - length from) 3 found (fault_in (with_rest y (left window))) ∷ []
       lists y e known =
           listed-one _ _ letters_place letters_part from letters-field
-          (sym (is ∙ ap content.Bytes (kept known) ∙ letters-content from (nat_lt (length from) 3) refl)) (reads y e known)
+          (sym (ap content.Bytes (got known).0 ∙ letters-content from (nat_lt (length from) 3) refl)) (reads y e known)
 
       by-answer : (y : Result Bytes FormatFault) → letters_in bs ≡ y → Checked old (record { window = window; entries = entries }) (Magic ∷ []) letters_part (answered y)
       by-answer (Ok x) e = record {
@@ -144,42 +139,3 @@ module _ {S : Type 0} {g : Ghosts S} where
   letters-memory {old = old} {entries = entries} same r is =
       let c = listed-memory {old = old} {entries = entries} {steps = []} r is in
       record { kept = c.kept; cause = c.cause; reads = OnTrue_from g.is_transparent _ (λ known. along (left old.window) same (OnTrue_at known c.reads)); lists = tt }
-
-  -- nothing was used before a part was read
-  same-left : (old mid : Window S g) → Kept old mid → next_of mid ≡ next_of old → left mid ≡ left old
-  same-left old mid kept unused = ap (λ (all : Bytes). drop (next_of mid) all) kept.bytes ∙ ap (λ k. drop k (source_of old).bytes) unused
-
-  pub unused-then : {A : Type 0} {old mid new : Window S g} {before after : List Entry} {steps : List Step} {p : Part A} {result : Result A HeadFault} → Kept old mid
-      → (source_of mid).failures ≡ (source_of old).failures → next_of mid ≡ next_of old
-      → Checked (record { window = mid; entries = before }) (record { window = new; entries = after }) steps p result
-      → Checked (record { window = old; entries = before }) (record { window = new; entries = after }) steps p result
-  unused-then {A = A} {old = old} {mid = mid} {new = new} {before = before} {after = after} {steps = steps} {p = p} {result = result} kept failures unused c = record {
-    kept = kept-then kept c.kept;
-    cause = subst (λ n. Caused n (source_of new) result) failures c.cause;
-    reads = subst (λ (from : Bytes). Reads g.is_transparent from (left new) p result) (same-left old mid kept unused) c.reads;
-    lists = by-result result c.lists;
-  }
-    where
-      same : listed (length (source_of mid).bytes) (map seen_by before) steps p (left mid) ≡ listed (length (source_of old).bytes) (map seen_by before) steps p (left old)
-      same = ap (λ (all : Bytes). listed (length all) (map seen_by before) steps p (left mid)) kept.bytes
-          ∙ ap (λ (from : Bytes). listed (length (source_of old).bytes) (map seen_by before) steps p from) (same-left old mid kept unused)
-
-      by-result : (r : Result A HeadFault) → Lists (record { window = mid; entries = before }) (record { window = new; entries = after }) steps p r
-          → Lists (record { window = old; entries = before }) (record { window = new; entries = after }) steps p r
-      by-result (Ok x) lists = OnTrue_from g.is_transparent _ (λ known. OnTrue_at known lists ∙ same)
-      by-result (Err (Format f)) lists = OnTrue_from g.is_transparent _ (λ known. OnTrue_at known lists ∙ same)
-      by-result (Err OutOfMemory) lists = tt
-      by-result (Err ReadFailed) lists = tt
-
-  -- the source has failed before the letters were read
-  pub unread-letters : {old new : Reader S g} {e : HeadFault} → Kept old.window new.window
-      → next_of new.window ≡ next_of old.window → Caused {A = Bool} (source_of old.window).failures (source_of new.window) (Err e) → e ≡ ReadFailed
-      → Checked {A = Bytes} old new (Magic ∷ []) letters_part (Err e)
-  unread-letters {old = old} {new = new} kept unused cause failed =
-      rw failed
-      (record {
-        kept = kept;
-        cause = subst (λ e. Caused {A = Bool} (source_of old.window).failures (source_of new.window) (Err e)) failed cause;
-        reads = OnTrue_from g.is_transparent _ (λ known. omega (arith, shorter letters_part (left old.window), ap length (same-left old.window new.window kept unused)));
-        lists = tt;
-      })

@@ -3,6 +3,7 @@ pub mod Checks
 pub mod Numbers
 pub mod Texts
 pub mod Letters
+pub mod Starts
 pub mod Elements
 pub mod Listed
 pub mod Passed

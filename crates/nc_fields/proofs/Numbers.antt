@@ -1,5 +1,5 @@
 -- The fields that are one number.
-use Rattle.nc_fields.proofs.Prelude.{Bytes, number, Place, Number, number_in, IsNumeric, Step, Cut, steps_of, whole_content, cut_content, byte_len, from_be_bytes, Magic, kept_letters, NumberWidth, ◌≡◌, ℕ, List, ◌∷◌, take, refl, ap, ◌∙◌}
+use Rattle.nc_fields.proofs.Prelude.{Bytes, number, Place, Number, number_in, IsNumeric, Step, Cut, steps_of, whole_content, cut_content, byte_len, from_be_bytes, Magic, NumberWidth, ◌≡◌, ℕ, List, ◌∷◌, take, refl, ap, ◌∙◌}
 use Rattle.nc_findings.specs.declared.entry.Content.TheVariants as content
 use Rattle.nc_fields.specs.declared.number.NumberWidth.TheVariants.{Four, Eight}
 use Rattle.nc_fields.specs.code.Numbers.{width_of}
@@ -14,7 +14,7 @@ numeric-cut : (place : Place) (bs : Bytes) → IsNumeric place → cut_content (
 numeric-cut place bs numeric = by-steps (steps_of place) numeric
   where
     by-steps : (steps : List Step) → ((size : ℕ) (start : Bytes) → whole_content steps size start ≡ Number (number_in size (take size start))) → cut_content steps bs ≡ Cut
-    by-steps (Magic ∷ steps) is = absurd (let e : content.Bytes (kept_letters bs) ≡ Number (number_in 0 (take 0 bs)) = is 0 bs in cc)
+    by-steps (Magic ∷ steps) is = absurd (let e : content.Bytes (take 0 bs) ≡ Number (number_in 0 (take 0 bs)) = is 0 bs in cc)
     by-steps steps is = refl
 
 -- a number in a place that the rules look at as one

@@ -2,15 +2,14 @@
 pub use Rattle.devices.specs.declared.{source.Source.Ghosts}
 pub use Rattle.nc_types.specs.Bytes.{Bytes, padding_len}
 pub use Rattle.nc_base.specs.Grammar.{att_after, checked, dim_after, dimid_after, first, is_within_limits, var_after}
-unfoldable pub use Rattle.nc_base.specs.Grammar.{att_part, dim_part, dimid_part, each, header_by, ignored, list_head, number, type_part, var_part}
+unfoldable pub use Rattle.nc_base.specs.Grammar.{att_part, dim_part, dimid_part, each, header_by, ignored, list_head, magic_part, number, type_part, var_part}
 pub use Rattle.nc_base.specs.Parts.{Dims, Item, Magic, Part, Shape, Step, Vars, bytes, chain, decoded, done, under}
 pub use Rattle.nc_base.specs.Sizes.{has_record_dim}
 pub use Rattle.nc_base.specs.code.PartRuns.{Outcome, and_then, with_rest}
 unfoldable pub use Rattle.nc_base.specs.code.PartRuns.{left_after, run}
 pub use Rattle.nc_base.specs.declared.{fault.FormatFault.FormatFault, header.Header.Header}
 pub use Rattle.nc_base.specs.declared.fault.FormatFault.TheVariants.{HeaderTruncated, NotNetcdf, TooLarge}
-pub use Rattle.nc_fields.specs.Entries.{Seen, cut_content, ends_with_nul, kept_letters, number_in, owner_steps, seen_by, steps_of, whole_content}
-pub use Rattle.nc_findings.specs.Contents.{hdf5_signature}
+pub use Rattle.nc_fields.specs.Entries.{Seen, cut_content, ends_with_nul, number_in, owner_steps, seen_by, steps_of, whole_content}
 unfoldable pub use Rattle.nc_fields.specs.Entries.{seen}
 pub use Rattle.nc_fields.specs.Fields.{Field, judged}
 unfoldable pub use Rattle.nc_fields.specs.Fields.{fields}

@@ -1,7 +1,6 @@
 -- Definition. The fields of a header, as the rules look at them: each with its place, its offset, and what matters of its content.
 use Rattle.std.specs.Prelude.{ℕ, ◌==◌, ◌&&◌, ◌-◌, Bool, nat_lt, if◌then◌else◌, List, [], ◌∷◌, ◌++◌, length, take, slice_index, Option}
 use Rattle.std.specs.Int.{w32, w64, from_be_bytes}
-use Rattle.std.specs.Str.{bytes_eq}
 use Rattle.nc_base.specs.declared.fault.FormatFault.{FormatFault}
 use Rattle.nc_types.specs.Bytes.{Bytes}
 use Rattle.nc_base.specs.Parts.{Step, Magic, VersionByte, Records, Dims, Gatts, Vars, Tag, Count, Item, Name, Length, Text, Padding, TypeCode, Values, Shape, Atts, Vsize, Begin}
@@ -9,7 +8,6 @@ use Rattle.nc_findings.specs.declared.{place.Owner.Owner, place.FieldKind.FieldK
 use Rattle.nc_findings.specs.declared.place.Owner.TheVariants as owner
 use Rattle.nc_findings.specs.declared.place.FieldKind.TheVariants as field
 use Rattle.nc_findings.specs.declared.entry.Content.TheVariants as content
-use Rattle.nc_findings.specs.Contents.{hdf5_signature}
 use Rattle.nc_fields.specs.Fields.{Field}
 
 -- ---- places
@@ -62,13 +60,9 @@ number_in size bytes = if size == 8 then from_be_bytes w64 bytes else (if size =
 abbrev pub ends_with_nul : Bytes → Bool
 ends_with_nul bytes = nat_lt 0 (length bytes) && (slice_index bytes (length bytes - 1) == 0)
 
--- what is kept of the start of a file: that signature, or else three bytes, or as many as there are
-abbrev pub kept_letters : Bytes → Bytes
-kept_letters file = if bytes_eq hdf5_signature (take 8 file) then hdf5_signature else take 3 file
-
 -- what matters of a field with these steps, that has this many bytes; these are the bytes from its first one to the end of the file
 abbrev pub whole_content : List Step → ℕ → Bytes → Content
-whole_content (Magic ∷ steps) size start = content.Bytes (kept_letters start)
+whole_content (Magic ∷ steps) size start = content.Bytes (take size start)
 whole_content (Text ∷ steps) size start = content.Bytes (take size start)
 whole_content (Padding ∷ steps) size start = content.Bytes (take size start)
 whole_content (Values ∷ steps) size start = content.Values (ends_with_nul (take size start))

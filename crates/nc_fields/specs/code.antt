@@ -3,3 +3,4 @@ pub mod Lists
 pub mod Answers
 pub mod PassedValues
 pub mod Numbers
+pub mod Starts

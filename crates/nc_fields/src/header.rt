@@ -1,6 +1,6 @@
 //! The whole header.
 
-ghost use Rattle.std.specs.Prelude.{◌≡◌, ◌≤◌, ◌∷◌, [], codes, if◌then◌else◌, length, map, min, take, IfOk, IsOk, Ok, Err};
+ghost use Rattle.std.specs.Prelude.{◌≡◌, ◌≤◌, ◌∷◌, [], codes, if◌then◌else◌, length, map, min, IfOk, Ok, Err};
 ghost use Rattle.std.specs.Bool.{OnTrue};
 ghost use Rattle.std.specs.Str.{bytes_eq};
 ghost use Rattle.nc_base.specs.Grammar.{checked, header_by, magic_part, version_part};
@@ -8,22 +8,19 @@ ghost use Rattle.nc_base.specs.Parts.{Magic, VersionByte, bytes};
 ghost use Rattle.nc_base.specs.declared.fault.FormatFault.TheVariants.{HeaderTruncated, NotNetcdf};
 ghost use Rattle.nc_fields.specs.Lenient.{lenient};
 ghost use Rattle.nc_window.specs.declared.head_fault.HeadFault.TheVariants.{Format};
-ghost use Rattle.nc_window.specs.code.Window.{HasRoom, left, ReadUpTo};
+ghost use Rattle.nc_window.specs.code.Window.{left, ReadUpTo};
 ghost use Rattle.nc_fields.specs.Entries.{seen_by};
-ghost use Rattle.nc_findings.specs.Contents.{hdf5_signature};
-ghost use Rattle.nc_fields.specs.Listings.{Blames, IsListing};
+ghost use Rattle.nc_fields.specs.Listings.{Blames, IsListing, read_end};
 ghost use Rattle.nc_fields.specs.code.Answers.{Answers};
 ghost use Rattle.nc_fields.specs.code.Checks.{with_fault};
 
 use crate::fields::{FieldReader, pending_field};
 use crate::list_name::HeaderList;
 use crate::name::filling_bytes;
-use crate::signature::is_hdf5_next;
+use crate::start::start_of;
 use devices::Source;
 use nc_base::{FormatFault, Header, Sequence, Version};
-use nc_findings::{
-    Content, Entry, FieldBytes, FieldKind, HDF5_SIGNATURE, ListFault, Listing, Owner,
-};
+use nc_findings::{Content, Entry, FieldKind, ListFault, Listing, Owner};
 use nc_window::{HeadFault, Window};
 use std::alloc::{AllocError, Global};
 
@@ -35,7 +32,8 @@ const FEW_FIELDS: usize = 128;
 /// valid, if they aren't empty and have no control character but NULs at the end.
 ///
 /// It reads forward, and at most one buffer more of a transparent source than the header, or than the bytes up to the end of the first
-/// wrong field. No count of the header reserves memory: the list grows as fields are read. The values of attributes are passed over.
+/// wrong field, or than the first 52 bytes of a file that isn't netCDF. No count of the header reserves memory: the list grows as fields
+/// are read. The values of attributes are passed over.
 ///
 /// # Errors
 ///
@@ -51,7 +49,7 @@ pub fn list_fields<S: Source>(
     ensures cause { Blames (S.view source.old).failures (S.view source.new) result }
     ensures listing { OnTrue S.is_transparent (IfOk result (IsListing (S.view source.old).bytes)) }
     ensures forward { IfOk result (λ l.
-        ReadUpTo (S.view source.old).handed (S.view source.new).handed l.end (length buf.old)) }
+        ReadUpTo (S.view source.old).handed (S.view source.new).handed (read_end l) (length buf.old)) }
 {
     let len = source.len();
     let mut window = Window::new(source, buf);
@@ -60,11 +58,15 @@ pub fn list_fields<S: Source>(
         entries: Sequence::from_vec(Vec::with_capacity(alloc, FEW_FIELDS)?),
     };
     let answer = fields.header(&mut window);
-    answered(fields, window.offset_of_next(), len, answer)
+    let mut listing = answered(fields, window.offset_of_next(), len, answer)?;
+    let start = start_of(alloc, &mut window, listing.entries.as_slice())?;
+    listing.start = start;
+    Ok(listing)
 }
 
 /// Returns the listing of `fields`, in a file of `file_len` bytes, if reading the header gave `answer` and ended at the offset `end`. A
-/// fault of the bytes becomes that of the last field and of the listing. Errs if `answer` is any other error, and if an allocation fails.
+/// fault of the bytes becomes that of the last field and of the listing. Its `start` is for the caller to put there. Errs if `answer` is
+/// any other error, and if an allocation fails.
 fn answered(
     fields: FieldReader,
     end: u64,
@@ -73,17 +75,20 @@ fn answered(
 ) -> Result<Listing, ListFault>
     ensures { Answers fields.entries end file_len answer result }
 {
-    let FieldReader { entries, .. } = fields;
+    let FieldReader { alloc, entries } = fields;
+    let start = Sequence::new(alloc);
     match answer {
         Ok(header) => Ok(Listing {
             entries,
             header: Ok(header),
+            start,
             end,
             file_len,
         }),
         Err(HeadFault::Format(fault)) => Ok(Listing {
             entries: with_fault(entries, fault)?,
             header: Err(fault),
+            start,
             end,
             file_len,
         }),
@@ -109,16 +114,9 @@ fn with_fault(entries: Sequence<Entry>, fault: FormatFault) -> Result<Sequence<E
 impl FieldReader {
     ghost use Rattle.nc_fields.specs.code.Checks.{at, Checked};
 
-    /// Reads the three bytes that should be `CDF`, adds them to the field list, or the signature of HDF5 in their place if `is_hdf5` is
-    /// true, and returns them. Errs with `NotNetcdf` if they are others, or fewer (these are listed, too), and if the source or an
-    /// allocation fails. Needs `is_hdf5` to be true if and only if the signature comes next, in a transparent source.
-    fn listed_letters<S: Source>(
-        &mut self,
-        window: &mut Window<'_, S>,
-        is_hdf5: bool,
-    ) -> Result<[u8; 3], HeadFault>
-        requires { OnTrue S.is_transparent
-            (is_hdf5 ≡ bytes_eq hdf5_signature (take 8 (left window.old))) }
+    /// Reads the three bytes that should be `CDF`, adds them to the field list, and returns them. Errs with `NotNetcdf` if they are others,
+    /// or fewer (these are listed, too), and if the source or an allocation fails.
+    fn letters<S: Source>(&mut self, window: &mut Window<'_, S>) -> Result<[u8; 3], HeadFault>
         ensures { Checked (at window.old self.old) (at window.new self.new) (Magic ∷ [])
             (checked (λ letters. bytes_eq letters (codes "CDF")) NotNetcdf (bytes 3 NotNetcdf))
             result }
@@ -131,22 +129,8 @@ impl FieldReader {
             filling_bytes(window, self.alloc, there),
         )?;
         let answer = letters_in(letters.as_slice());
-        let kept = kept_letters(self.alloc, is_hdf5, letters)?;
-        start.list(&mut self.entries, Content::Bytes(kept))?;
+        start.list(&mut self.entries, Content::Bytes(letters))?;
         answer
-    }
-
-    /// Reads the three bytes that should be `CDF`, adds them to the field list, or the signature of HDF5 if that comes next, and returns
-    /// them. Errs with `NotNetcdf` if they are others, or fewer, and if the source or an allocation fails. Needs a buffer with room for the
-    /// next eight bytes.
-    fn letters<S: Source>(&mut self, window: &mut Window<'_, S>) -> Result<[u8; 3], HeadFault>
-        requires { HasRoom 8 window.old }
-        ensures { Checked (at window.old self.old) (at window.new self.new) (Magic ∷ [])
-            (checked (λ letters. bytes_eq letters (codes "CDF")) NotNetcdf (bytes 3 NotNetcdf))
-            result }
-    {
-        let is_hdf5 = is_hdf5_next(window)?;
-        self.listed_letters(window, is_hdf5)
     }
 
     /// Reads the version byte, adds it to the field list, and returns it, whatever it is. Errs with `HeaderTruncated` if there is none, and
@@ -174,10 +158,9 @@ impl FieldReader {
     }
 
     /// Reads `CDF` and the version byte, adds both to the field list, and returns the version. Errs with the fault of the first wrong
-    /// field, and if the source or an allocation fails. Needs a buffer with room for the next eight bytes.
+    /// field, and if the source or an allocation fails.
     #[tactic(auto, using(crate::proofs::Checks::chain_lists), unfolding(nc_base::specs::Grammar::magic_part))]
     fn magic<S: Source>(&mut self, window: &mut Window<'_, S>) -> Result<Version, HeadFault>
-        requires { HasRoom 8 window.old }
         ensures { Checked (at window.old self.old) (at window.new self.new) [] magic_part result }
     {
         self.letters(window)?;
@@ -185,9 +168,8 @@ impl FieldReader {
     }
 
     /// Reads the whole header, adds its fields to the field list, and returns it without the values of attributes. Errs with the fault of
-    /// the first wrong field, and if the source or an allocation fails. Needs a buffer with room for the next eight bytes.
+    /// the first wrong field, and if the source or an allocation fails.
     fn header<S: Source>(&mut self, window: &mut Window<'_, S>) -> Result<Header, HeadFault>
-        requires { HasRoom 8 window.old }
         ensures { Checked (at window.old self.old) (at window.new self.new)
             [] (header_by lenient) result }
     {
@@ -212,18 +194,6 @@ fn letters_there<S: Source>(window: &Window<'_, S>) -> u64
 {
     let left = window.left_len();
     if left < 3 { left } else { 3 }
-}
-
-/// Returns what is kept of the start of a file: the signature of HDF5 if `is_hdf5` is true, or else `letters`. Never errs.
-fn kept_letters(alloc: Global, is_hdf5: bool, letters: FieldBytes) -> Result<FieldBytes, AllocError>
-    ensures kept { IfOk result (λ kept. kept ≡ (if is_hdf5 then hdf5_signature else letters)) }
-    ensures never { IsOk result }
-{
-    if is_hdf5 {
-        FieldBytes::from_slice(alloc, &HDF5_SIGNATURE)
-    } else {
-        Ok(letters)
-    }
 }
 
 /// Returns the letters if they are `CDF`, and otherwise errs with `NotNetcdf`.

@@ -2,8 +2,8 @@
 //!
 //! [`list_fields`] reads a header from any source, through a caller's buffer, and lists its fields: each with its place, its offset, its
 //! size and what matters of its content. If the header is wrong, the list ends with the first wrong field and its fault. Files with floats
-//! and doubles are taken, since no value is read. It is what a check of a file looks at; the rules on begins, sizes and the length of a
-//! file are those of the crate `nc_layout`.
+//! and doubles are taken, since no value is read. Of a file that doesn't begin with `CDF` it has the first 52 bytes. It is what a check of a
+//! file looks at; the rules on begins, sizes and the length of a file are those of the crate `nc_layout`.
 #![tactic(auto)]
 
 mod attribute;
@@ -14,7 +14,7 @@ mod list;
 mod list_name;
 mod name;
 mod number;
-mod signature;
+mod start;
 mod variable;
 
 pub use header::list_fields;

@@ -5,7 +5,7 @@ use Rattle.nc_findings.specs.declared.layout_fact.LayoutFact.{LayoutFact}
 use Rattle.nc_findings.specs.declared.layout_fact.LayoutFact.TheVariants as layout
 use Rattle.nc_findings.specs.declared.{finding.Fact.Fact, kind.Kind.Kind, kind.Severity.Severity}
 use Rattle.nc_findings.specs.declared.finding.Fact.TheVariants as fact
-use Rattle.nc_findings.specs.declared.kind.Kind.TheVariants.{NotNetcdf, Hdf5, Gzip, EmptyFile, UnknownVersion, HeaderTruncated, BadTag, BadCount, BadName, NameCharacters, FloatingType, BadType, BadShape, TwoRecordDims, TooLarge, BadOffset, LargeCount, Streaming, UnusedRecords, EmptyList, LongName, DuplicateName, NotNfc, Padding, EmptyAttribute, TrailingNul, FillValue, HighRank, Vsize, OddVsize, LargeVariable, BeginInHeader, Overlap, Unpadded, Order, AfterRecords, RecordPlace, Gap, Missing, EndPadding, Trailing}
+use Rattle.nc_findings.specs.declared.kind.Kind.TheVariants.{NotNetcdf, Hdf5, Hdf5Truncated, Gzip, EmptyFile, UnknownVersion, HeaderTruncated, BadTag, BadCount, BadName, NameCharacters, FloatingType, BadType, BadShape, TwoRecordDims, TooLarge, BadOffset, LargeCount, Streaming, UnusedRecords, EmptyList, LongName, DuplicateName, NotNfc, Padding, EmptyAttribute, TrailingNul, FillValue, HighRank, Vsize, OddVsize, LargeVariable, BeginInHeader, Overlap, Unpadded, Order, AfterRecords, RecordPlace, Gap, Missing, EndPadding, Trailing}
 use Rattle.nc_findings.specs.declared.kind.Severity.TheVariants.{Error, Violation, Note}
 
 -- ---- of facts
@@ -42,6 +42,7 @@ kind_of_layout (layout.Trailing n end records) = Trailing
 abbrev pub kind_of : Fact → Kind
 kind_of (fact.Fault fault) = kind_of_fault fault
 kind_of fact.Hdf5 = Hdf5
+kind_of (fact.Hdf5Truncated file_len end) = Hdf5Truncated
 kind_of fact.Gzip = Gzip
 kind_of fact.EmptyFile = EmptyFile
 kind_of fact.NameCharacters = NameCharacters

@@ -13,7 +13,7 @@ pub enum Content {
     /// The field is a number.
     Number(u64),
     /// The field is these bytes: a name, the padding of a name or of values, or what stands in the place of the letters `CDF`, of which
-    /// fewer than three may be there. Of an HDF5 file these are the eight bytes of its signature.
+    /// fewer than three may be there.
     Bytes(FieldBytes),
     /// The field is the values of an attribute.
     Values {

@@ -8,8 +8,16 @@ use nc_base::FormatFault;
 pub enum Fact {
     /// The programs that read values stop at this field with this fault.
     Fault(FormatFault),
-    /// The file is one of HDF5, as netCDF-4 writes them. The programs that read values stop there with `NotNetcdf`, as at the next two.
+    /// The file is one of HDF5, as netCDF-4 writes them. The programs that read values stop there with `NotNetcdf`, as at `Gzip` and
+    /// `EmptyFile`.
     Hdf5,
+    /// The file is one of HDF5, and ends before its data do, by its superblock. It comes with `Hdf5`.
+    Hdf5Truncated {
+        /// The bytes of the file.
+        file_len: u64,
+        /// The least number of bytes that it should have.
+        end: u64,
+    },
     /// The file is packed by gzip.
     Gzip,
     /// The file has no byte.

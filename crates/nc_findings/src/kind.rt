@@ -21,10 +21,12 @@ pub enum Severity {
 /// The kinds of findings. Of those at one offset, a report has them in this order.
 #[derive(Clone, Copy, Debug, PartialEq, Eq, PartialOrd, Ord)]
 pub enum Kind {
-    /// The file doesn't begin with `CDF`, and is none of the next three kinds.
+    /// The file doesn't begin with `CDF`, and is none of `Hdf5`, `Gzip` and `EmptyFile`.
     NotNetcdf,
     /// The file begins with the signature of HDF5, as netCDF-4 files do.
     Hdf5,
+    /// An HDF5 file ends before its data do.
+    Hdf5Truncated,
     /// The file begins with the two bytes of gzip.
     Gzip,
     /// The file has no byte.
@@ -143,6 +145,7 @@ impl Fact {
         match self {
             Fact::Fault(fault) => kind_of_fault(fault),
             Fact::Hdf5 => Kind::Hdf5,
+            Fact::Hdf5Truncated { .. } => Kind::Hdf5Truncated,
             Fact::Gzip => Kind::Gzip,
             Fact::EmptyFile => Kind::EmptyFile,
             Fact::NameCharacters => Kind::NameCharacters,

@@ -15,8 +15,8 @@ findings-total =
     (on_total (λ (f : Finding). f.fact) fact_laws.total-law))
     (on_total (λ (f : Finding). f.field) (options_total nat_cmp_total))
 
-pub all-found : (l : Listing) (of_header more found : List Finding) → IsPermutation (header_findings l.entries) of_header → IsPermutation (of_header ++ whole_findings l) more → IsPermutation more found
+pub all-found : (l : Listing) (of_header more found : List Finding) → IsPermutation (header_findings l.start l.entries) of_header → IsPermutation (of_header ++ whole_findings l) more → IsPermutation more found
     → IsPermutation (all_findings l) found
 unfolding all_findings
 all-found l of_header more found p q r =
-    IsPermutation-trans _ more found (IsPermutation-trans _ (of_header ++ whole_findings l) more (IsPermutation-append_left (whole_findings l) (header_findings l.entries) of_header p) q) r
+    IsPermutation-trans _ more found (IsPermutation-trans _ (of_header ++ whole_findings l) more (IsPermutation-append_left (whole_findings l) (header_findings l.start l.entries) of_header p) q) r

@@ -1,6 +1,9 @@
 -- Findings at fields that are kept as numbers.
-use Rattle.nc_rules.proofs.Prelude.{IsPermutation, IsPermutation-map, IsPermutation-append, IsPermutation-refl, option_map, option_to_list, Version, append-nil, Header, FormatFault, Listing, Entry, Slot, FileLayout, LayoutFinding, each_slot, layout_findings, IsSoundLayout, layout_of, Fact, Finding, NumberField, NumberFields, Indexed, indexed, vsize_findings, whole_findings, is_vsize, named, vsize_finding, found_at, located, number_field, HoldsNumbers, found_at_number, located_number, vsize_finding_at, vsize_findings_at, ◌≡◌, ℕ, ◌+◌, List, [], ◌∷◌, ◌++◌, map, slice_get, Option, Some, Result, Ok, Err, OnOk, SomeIff, append_assoc, arith, refl, sym, ap, ap₂, subst, ◌∙◌}
+use Rattle.nc_rules.proofs.Prelude.{IsPermutation, IsPermutation-map, IsPermutation-append, IsPermutation-refl, option_map, option_to_list, Version, Header, FormatFault, Listing, Entry, Slot, FileLayout, LayoutFinding, each_slot, layout_findings, IsSoundLayout, layout_of, Fact, Finding, NumberField, NumberFields, Indexed, indexed, vsize_findings, whole_findings, is_vsize, named, vsize_finding, found_at, located, number_field, HoldsNumbers, found_at_number, located_number, vsize_finding_at, vsize_findings_at, ◌≡◌, ℕ, ◌+◌, List, [], ◌∷◌, ◌++◌, map, slice_get, Option, Some, Result, Ok, Err, OnOk, SomeIff, append_assoc, arith, refl, sym, ap, ap₂, subst, ◌∙◌}
 use Rattle.std.proofs.lemmas.Option.{slice_get-map}
+use Rattle.nc_types.specs.Bytes.{Bytes}
+use Rattle.nc_rules.specs.Superblocks.{hdf5_truncated}
+use Rattle.nc_rules.specs.code.WholeHeaders.{HasSoundLayout}
 
 -- at a field in this place of a list
 placed : (fs : List Indexed) (i : ℕ) (what : Fact) → found_at_number (slice_get (map number_field fs) i) what ≡ found_at (slice_get fs i) what
@@ -50,7 +53,10 @@ whole-findings l h layout ns entries found one two answer whole is_layout is_som
     (map-same (located_number ns) (located (indexed entries)) (layout_findings layout) (λ x. located-numbers (indexed entries) ns x holds))
     ∙ append_assoc found _ _) p)
 
--- nothing is found if the header isn't whole
-pub broken-findings : (l : Listing) (fault : FormatFault) (found : List Finding) → l.header ≡ Err fault → IsPermutation (found ++ whole_findings l) found
+-- what is found if the header isn't whole
+pub broken-findings : (l : Listing) (fault : FormatFault) (start : Bytes) (cut : Option Finding) (found new : List Finding) {A E : Type 0} (result : Result A E) → l.header ≡ Err fault → start ≡ l.start
+    → cut ≡ hdf5_truncated start l.file_len → OnOk result (new ≡ found ++ option_to_list cut) → OnOk result (HasSoundLayout l → IsPermutation (found ++ whole_findings l) new)
 unfolding whole_findings
-broken-findings l fault found broken = rw broken (subst (λ (xs : List Finding). IsPermutation xs found) (sym (append-nil found)) (IsPermutation-refl found))
+broken-findings l fault start cut found new (Ok x) broken same is more =
+    λ sound. rw (broken, more, is, same) (IsPermutation-refl (found ++ option_to_list (hdf5_truncated l.start l.file_len)))
+broken-findings l fault start cut found new (Err e) broken same is more = tt

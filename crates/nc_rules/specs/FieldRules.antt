@@ -12,10 +12,10 @@ use Rattle.nc_types.specs.Names.{is_name}
 use Rattle.nc_findings.specs.declared.{entry.Content.Content, entry.Entry.Entry, place.FieldKind.FieldKind, finding.Fact.Fact, finding.Finding.Finding}
 use Rattle.nc_findings.specs.declared.entry.Content.TheVariants as content
 use Rattle.nc_findings.specs.declared.place.FieldKind.TheVariants as field
-use Rattle.nc_findings.specs.Contents.{hdf5_signature}
 use Rattle.nc_findings.specs.declared.finding.Fact.TheVariants.{Fault, Hdf5, Gzip, EmptyFile, NameCharacters, LargeCount, LongName, NotNfc, Padding, HighRank}
 use Rattle.nc_findings.specs.Limits.{highest_rank, large_count, longest_name}
 use Rattle.nc_rules.specs.Indexed.{Indexed, finding}
+use Rattle.nc_rules.specs.Superblocks.{is_hdf5}
 
 -- ---- fields without a fault
 
@@ -68,34 +68,35 @@ content_facts place size other = []
 abbrev pub gzip_signature : Bytes
 gzip_signature = 0x1f ∷ 0x8b ∷ []
 
--- of what is kept of the start of a file that doesn't begin with `CDF`
+-- of a file that doesn't begin with `CDF`, by its start
 abbrev pub magic_fact : Bytes → Fact
-magic_fact bytes =
-    if bytes_eq hdf5_signature bytes then Hdf5
-    else if bytes_eq gzip_signature (take 2 bytes) then Gzip
-    else if length bytes == 0 then EmptyFile
+magic_fact start =
+    if is_hdf5 start then Hdf5
+    else if bytes_eq gzip_signature (take 2 start) then Gzip
+    else if length start == 0 then EmptyFile
     else Fault NotNetcdf
 
-abbrev pub fault_fact : FormatFault → Content → Fact
-fault_fact NotNetcdf (content.Bytes bytes) = magic_fact bytes
-fault_fact fault c = Fault fault
+-- of a field with this fault, in a file with this start
+abbrev pub fault_fact : Bytes → FormatFault → Fact
+fault_fact start NotNetcdf = magic_fact start
+fault_fact start fault = Fault fault
 
 -- ---- all fields
 
 -- the facts of a field with this fault, or without one
-abbrev pub facts_with : Option FormatFault → FieldKind → ℕ → Content → List Fact
-facts_with (Some fault) place size c = fault_fact fault c ∷ []
-facts_with None place size c = content_facts place size c
+abbrev pub facts_with : Bytes → Option FormatFault → FieldKind → ℕ → Content → List Fact
+facts_with start (Some fault) place size c = fault_fact start fault ∷ []
+facts_with start None place size c = content_facts place size c
 
-abbrev pub facts_of : Entry → List Fact
-facts_of entry = facts_with entry.fault entry.place.field entry.size entry.content
+abbrev pub facts_of : Bytes → Entry → List Fact
+facts_of start entry = facts_with start entry.fault entry.place.field entry.size entry.content
 
-abbrev pub findings_at : Indexed → List Finding
-findings_at f = map (finding f) (facts_of f.entry)
+abbrev pub findings_at : Bytes → Indexed → List Finding
+findings_at start f = map (finding f) (facts_of start f.entry)
 
--- all findings at fields alone
-unfoldable pub field_findings : List Indexed → List Finding
-field_findings fields = flat_map findings_at fields
+-- all findings at fields alone, in a file with this start
+unfoldable pub field_findings : Bytes → List Indexed → List Finding
+field_findings start fields = flat_map (findings_at start) fields
 
 -- ---- floating types
 

@@ -12,7 +12,7 @@ use Rattle.nc_rules.specs.WholeHeader.{whole_findings}
 
 -- all that is found in a file with this listing
 unfoldable pub all_findings : Listing → List Finding
-all_findings l = header_findings l.entries ++ whole_findings l
+all_findings l = header_findings l.start l.entries ++ whole_findings l
 
 -- by offset; then by kind, in the order of the kinds; then by fact, in the order of the facts and of the numbers that they have; then by
 -- field, with none first

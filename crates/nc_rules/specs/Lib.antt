@@ -1,4 +1,5 @@
 pub mod Indexed
+pub mod Superblocks
 pub mod FieldRules
 pub mod Ahead
 pub mod AttributeRules

@@ -1,5 +1,6 @@
--- Definition. Findings that need a whole header: the sizes of its variables, and the layout of the file.
-use Rattle.std.specs.Prelude.{ℕ, ◌==◌, ◌||◌, Bool, true, false, not, if◌then◌else◌, List, [], ◌++◌, filter, map, slice_get, Option, Some, None, option_map, Ok, Err}
+-- Definition. Findings that need a whole header: the sizes of its variables, and the layout of the file. And of a file without one: that it
+-- is one of HDF5, and too short.
+use Rattle.std.specs.Prelude.{ℕ, ◌==◌, ◌||◌, Bool, true, false, not, if◌then◌else◌, List, ◌++◌, filter, map, slice_get, Option, Some, None, option_map, Ok, Err}
 use Rattle.std.specs.Option.{option_to_list}
 use Rattle.nc_types.specs.declared.{version.Version.Version}
 use Rattle.nc_types.specs.Versions.{vsize_of}
@@ -14,6 +15,7 @@ use Rattle.nc_layout.specs.Findings.{layout_findings}
 use Rattle.nc_layout.specs.HeaderLayout.{layout_of}
 use Rattle.nc_findings.specs.declared.finding.Fact.TheVariants as fact
 use Rattle.nc_rules.specs.Indexed.{Indexed, indexed, finding}
+use Rattle.nc_rules.specs.Superblocks.{hdf5_truncated}
 
 -- ---- the fields that these findings lie at
 
@@ -75,4 +77,7 @@ abbrev pub layout_facts : FileLayout → List Indexed → List Finding
 layout_facts layout fields = vsize_findings layout fields ++ map (located fields) (layout_findings layout)
 
 unfoldable pub whole_findings : Listing → List Finding
-whole_findings l = elim l.header [ Ok h ↦ layout_facts (layout_of h l.end l.file_len) (indexed l.entries) | Err fault ↦ [] ]
+whole_findings l = elim l.header [
+  | Ok h ↦ layout_facts (layout_of h l.end l.file_len) (indexed l.entries)
+  | Err fault ↦ option_to_list (hdf5_truncated l.start l.file_len)
+]

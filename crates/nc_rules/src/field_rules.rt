@@ -6,10 +6,10 @@ ghost use Rattle.nc_rules.specs.Indexed.{field_at, finding, finding_at, indexed}
 ghost use Rattle.nc_rules.specs.FieldRules.{bytes_fact, content_facts, fault_fact, field_findings, findings_at, floating_finding, floating_findings, form_fact, has_nonzero, is_floating_in, is_large_count, is_not_nfc, magic_fact, number_fact};
 
 use crate::finding::{finding_at, push_some};
+use crate::superblock::is_hdf5;
 use nc_base::{FormatFault, Sequence, check_name};
 use nc_findings::{
-    Content, Entry, Fact, FieldKind, Finding, HDF5_SIGNATURE, HIGHEST_RANK, LARGE_COUNT,
-    LONGEST_NAME,
+    Content, Entry, Fact, FieldKind, Finding, HIGHEST_RANK, LARGE_COUNT, LONGEST_NAME,
 };
 use std::alloc::{AllocError, Global};
 use unicode_normalization::is_nfc;
@@ -20,66 +20,60 @@ const GZIP_SIGNATURE: [u8; 2] = *b"\x1f\x8b";
 /// The streaming mark of CDF-1 and CDF-2, which stands in place of the number of records.
 const STREAMING: u64 = (1 << 32) - 1;
 
-/// Appends the findings that each field of a header shows by itself: its fault, or else what is odd in its content. Errs only if an
-/// allocation fails.
+/// Appends the findings that each field of a header shows by itself: its fault, or else what is odd in its content. `start` is the start of
+/// a file that isn't netCDF. Errs only if an allocation fails.
 #[tactic(auto, unfolding(crate::specs::FieldRules::field_findings))]
 pub(crate) fn push_field_findings(
     found: &mut Sequence<Finding>,
     alloc: Global,
+    start: &[u8],
     entries: &[Entry],
 ) -> Result<(), AllocError>
-    ensures { OnOk result (found.new ≡ found.old ++ field_findings (indexed entries.now)) }
+    ensures { OnOk result (found.new ≡ found.old ++ field_findings start.now (indexed entries.now)) }
 {
     for (i, entry) in entries.iter().enumerate() {
-        push_findings_at(found, alloc, i as u64, entry)?;
+        push_findings_at(found, alloc, start, i as u64, entry)?;
     }
     Ok(())
 }
 
 /// Appends the findings that `entry`, the header's field at the index `i`, shows by itself: its fault, or, if it has none, what is odd in
-/// its content. Errs only if an allocation fails.
+/// its content. `start` is the start of a file that isn't netCDF. Errs only if an allocation fails.
 fn push_findings_at(
     found: &mut Sequence<Finding>,
     alloc: Global,
+    start: &[u8],
     i: u64,
     entry: &Entry,
 ) -> Result<(), AllocError>
-    ensures { OnOk result (found.new ≡ found.old ++ findings_at (field_at i entry.now)) }
+    ensures { OnOk result (found.new ≡ found.old ++ findings_at start.now (field_at i entry.now)) }
 {
     match entry.fault {
-        Some(fault) => found.push(fault_finding(i, entry, fault)),
+        Some(fault) => found.push(finding_at(i, entry.offset, fault_fact(start, fault))),
         None => push_content_findings(found, alloc, i, entry),
     }
 }
 
-/// Returns the finding of this fault at `entry`, the header's field at the index `i`.
-fn fault_finding(i: u64, entry: &Entry, fault: FormatFault) -> Finding
-    ensures { result ≡ finding (field_at i entry.now) (fault_fact fault entry.now.content) }
+/// Returns the fact for this fault of a field: for `NotNetcdf` what the start of the file shows ([`magic_fact`]), or the fault itself.
+fn fault_fact(start: &[u8], fault: FormatFault) -> Fact
+    ensures { result ≡ fault_fact start.now fault }
 {
-    finding_at(i, entry.offset, fault_fact(fault, &entry.content))
-}
-
-/// Returns the fact for this fault of a field: for `NotNetcdf` what the bytes in the place of `CDF` show ([`magic_fact`]), or the fault
-/// itself.
-fn fault_fact(fault: FormatFault, content: &Content) -> Fact
-    ensures { result ≡ fault_fact fault content.now }
-{
-    match (fault, content) {
-        (FormatFault::NotNetcdf, Content::Bytes(bytes)) => magic_fact(bytes.as_slice()),
+    match fault {
+        FormatFault::NotNetcdf => magic_fact(start),
         _ => Fact::Fault(fault),
     }
 }
 
 /// Returns what the first bytes of a file that doesn't begin with `CDF` show: `Hdf5`, `Gzip`, `EmptyFile` (no bytes), or the fault
 /// `NotNetcdf`.
-fn magic_fact(bytes: &[u8]) -> Fact
-    ensures { result ≡ magic_fact bytes.now }
+fn magic_fact(start: &[u8]) -> Fact
+    ensures { result ≡ magic_fact start.now }
 {
-    if bytes == HDF5_SIGNATURE.as_slice() {
+    if is_hdf5(start) {
         Fact::Hdf5
-    } else if bytes.starts_with(&GZIP_SIGNATURE) {
+    } else if start.starts_with(&GZIP_SIGNATURE) {
         Fact::Gzip
-    } else if bytes.is_empty() {
+    } else if start.is_empty() {
         Fact::EmptyFile
     } else {
         Fact::Fault(FormatFault::NotNetcdf)

@@ -20,7 +20,8 @@ pub fn findings_of(alloc: Global, listing: &Listing) -> Result<Sequence<Finding>
         → IsPermutation (all_findings listing.now) found) }
     ensures in_order { IfOk result (AllPairs IsInOrder) }
 {
-    let mut found = header_findings(alloc, listing.entries.as_slice())?;
+    let start = listing.start.as_slice();
+    let mut found = header_findings(alloc, start, listing.entries.as_slice())?;
     push_whole_findings(&mut found, alloc, listing)?;
     Ok(in_order(found))
 }

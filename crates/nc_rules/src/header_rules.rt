@@ -11,17 +11,18 @@ use nc_findings::{Entry, Finding};
 use std::alloc::{AllocError, Global};
 
 /// Returns all findings at these fields of a header, except those that need a whole header (about sizes and the layout of the file), in no
-/// order that is promised. Errs only if an allocation fails.
+/// order that is promised. `start` is the start of a file that isn't netCDF. Errs only if an allocation fails.
 ///
 /// It takes time in proportion to n log n for n fields, however many names are equal.
 pub(crate) fn header_findings(
     alloc: Global,
+    start: &[u8],
     entries: &[Entry],
 ) -> Result<Sequence<Finding>, AllocError>
-    ensures { IfOk result (λ found. IsPermutation (header_findings entries.now) found) }
+    ensures { IfOk result (λ found. IsPermutation (header_findings start.now entries.now) found) }
 {
     let mut found = Sequence::new(alloc);
-    push_field_findings(&mut found, alloc, entries)?;
+    push_field_findings(&mut found, alloc, start, entries)?;
     push_floating_finding(&mut found, entries)?;
     let names = push_name_findings(&mut found, alloc, entries)?;
     push_attribute_findings(&mut found, entries, &names)?;

@@ -14,6 +14,7 @@ mod header_rules;
 mod name_rules;
 mod names;
 mod number_fields;
+mod superblock;
 mod whole_header;
 
 pub use ahead::{Ahead, NumberField, ValuesAt};

@@ -8,14 +8,15 @@ ghost use Rattle.nc_rules.specs.code.WholeHeaders.{HasSoundLayout, found_at_numb
 use crate::ahead::NumberField;
 use crate::finding::{finding_at, push_some};
 use crate::number_fields::{NumberFields, number_fields};
+use crate::superblock::hdf5_truncated;
 use nc_base::{Sequence, Version};
 use nc_findings::{Fact, Finding, LayoutFinding, LayoutPlace, Listing};
 use nc_layout::{FileLayout, Slot, layout_findings, padded_slab_len, sound_layout};
 use std::alloc::{AllocError, Global};
 
 /// If the header is whole (no field is wrong), appends the findings about the sizes of variables (`vsize`) and the layout of the file, in
-/// no order that is promised. Of a header whose layout isn't sound (within the limits) nothing is promised. Errs only if an allocation
-/// fails.
+/// no order that is promised. Of a header whose layout isn't sound (within the limits) nothing is promised. If the header isn't whole,
+/// appends the finding that the file is one of HDF5 and too short, if it is. Errs only if an allocation fails.
 pub(crate) fn push_whole_findings(
     found: &mut Sequence<Finding>,
     alloc: Global,
@@ -24,12 +25,14 @@ pub(crate) fn push_whole_findings(
     ensures { OnOk result (HasSoundLayout listing.now
         → IsPermutation (found.old ++ whole_findings listing.now) found.new) }
 {
-    if let Ok(header) = &listing.header {
-        if let Some(layout) = sound_layout(alloc, header, listing.end, listing.file_len)? {
-            let fields = number_fields(alloc, listing.entries.as_slice())?;
-            push_vsize_findings(found, &layout, &fields.vsizes)?;
-            push_layout_findings(found, alloc, &layout, &fields)?;
-        }
+    let Ok(header) = &listing.header else {
+        let cut = hdf5_truncated(listing.start.as_slice(), listing.file_len);
+        return push_some(found, cut);
+    };
+    if let Some(layout) = sound_layout(alloc, header, listing.end, listing.file_len)? {
+        let fields = number_fields(alloc, listing.entries.as_slice())?;
+        push_vsize_findings(found, &layout, &fields.vsizes)?;
+        push_layout_findings(found, alloc, &layout, &fields)?;
     }
     Ok(())
 }

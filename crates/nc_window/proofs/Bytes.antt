@@ -1,5 +1,5 @@
 -- Reading bytes through a window: one after the other, or many at once.
-use Rattle.nc_window.proofs.Prelude.{◌≡◌, ℕ, ◌+◌, ◌-◌, ◌<◌, ◌≤◌, Bool, true, false, cond, leb, List, [], ◌∷◌, ◌++◌, length, take, drop, set, get_or, Ok, Err, refl, sym, ap, ap₂, ◌∙◌, subst, arith, rules, drop-drop, drop-take, take-take, take_all, length-replicate, length-drop, length-take, OnTrue, OnTrue_at, OnTrue_from, Ghosts, Window, HeadFault, Format, OutOfMemory, ReadFailed, HeaderTruncated, FormatFault, source_of, left, next_of, Kept, Read, Reads, Ready, FailsOnly, IsAdvanced, Stuck, ignored, Part, bytes, Outcome, and_then, run, left_after, printed_len, lt-leb, le-leb, drop_more}
+use Rattle.nc_window.proofs.Prelude.{◌≡◌, ℕ, ◌+◌, ◌-◌, ◌<◌, ◌≤◌, Bool, true, false, cond, leb, List, [], ◌∷◌, ◌++◌, length, take, drop, set, get_or, Ok, Err, refl, sym, ap, ap₂, ◌∙◌, append_assoc, subst, arith, rules, drop-drop, drop-take, take-take, take_all, length-replicate, length-drop, length-take, OnTrue, OnTrue_at, OnTrue_from, Ghosts, Window, HeadFault, Format, OutOfMemory, ReadFailed, HeaderTruncated, FormatFault, source_of, left, next_of, Kept, Read, Reads, Ready, FailsOnly, IsAdvanced, Stuck, ignored, Part, bytes, Outcome, and_then, run, left_after, printed_len, lt-leb, le-leb, drop_more}
 use Rattle.std.proofs.lemmas.Grind.{take-set_at}
 use Rattle.std.proofs.Math.Seq.{take-add}
 
@@ -202,6 +202,27 @@ module _ {S : Type 0} {g : Ghosts S} where
       ∙ ap₂ (λ (xs ys : List ℕ). xs ++ ys) (OnTrue_at known same) (ap (take k) (left-on start mid (length before) so_far.kept so_far.used))
       ∙ sym (take-add (length before) k (left start))
       ∙ ap (λ (n : ℕ). take n (left start)) (sym len))
+
+  -- ---- up to some number of bytes
+
+  -- one more byte was used, and added to those before
+  pub up_to-next : (start mid : Window S g) (i b : ℕ) (before out more : List ℕ) → Progress start mid i → more ≡ out ++ b ∷ [] → OnTrue g.is_transparent (out ≡ before ++ take i (left start))
+      → OnTrue g.is_transparent (take 1 (left mid) ≡ b ∷ []) → OnTrue g.is_transparent (more ≡ before ++ take (i + 1) (left start))
+  up_to-next start mid i b before out more so_far is same one =
+      OnTrue_from g.is_transparent _
+      (λ known.
+      is ∙ ap (λ (xs : List ℕ). xs ++ b ∷ []) (OnTrue_at known same) ∙ append_assoc before (take i (left start)) (b ∷ [])
+      ∙ ap (λ (xs : List ℕ). before ++ (take i (left start) ++ xs)) (sym (OnTrue_at known one) ∙ ap (take 1) (left-on start mid i so_far.kept so_far.used))
+      ∙ ap (λ (xs : List ℕ). before ++ xs) (sym (take-add i 1 (left start))))
+
+  -- no byte was left
+  pub up_to-end : (start mid : Window S g) (n i : ℕ) (before out : List ℕ) → i ≤ n → Progress start mid i → OnTrue g.is_transparent (left mid ≡ [])
+      → OnTrue g.is_transparent (out ≡ before ++ take i (left start)) → OnTrue g.is_transparent (out ≡ before ++ take n (left start))
+  up_to-end start mid n i before out le so_far none same =
+      OnTrue_from g.is_transparent _
+      (λ known.
+      let short : length (left start) ≤ i = omega (arith, length-drop i (left start), ap length (sym (left-on start mid i so_far.kept so_far.used) ∙ OnTrue_at known none)) in
+      OnTrue_at known same ∙ ap (λ (xs : List ℕ). before ++ xs) (take_all i (left start) short ∙ sym (take_all n (left start) (omega (arith, short, le)))))
 
   -- ---- what the window holds
 

@@ -1,5 +1,5 @@
 -- The names that proofs of this crate cite from elsewhere, passed on from one place.
-pub use Rattle.std.proofs.Common.{◌≡◌, ℕ, ◌+◌, ◌-◌, ◌≤◌, Bool, true, List, length, drop, Result, Ok, Err, sym, ap, ◌∙◌, subst, arith, refl, take, false, [], ◌∷◌, ◌++◌, rules, ◌<◌, leb, Option, Some, cond, ◌==◌, ◌||◌, le_refl, set, get_or, ap₂, length-set}
+pub use Rattle.std.proofs.Common.{◌≡◌, ℕ, ◌+◌, ◌-◌, ◌≤◌, Bool, true, List, length, drop, Result, Ok, Err, sym, ap, ◌∙◌, subst, arith, refl, take, false, [], ◌∷◌, ◌++◌, rules, ◌<◌, leb, Option, Some, cond, ◌==◌, ◌||◌, le_refl, set, get_or, ap₂, length-set, append_assoc, length-append}
 pub use Rattle.devices.specs.declared.source.Source.{Ghosts}
 pub use Rattle.nc_base.proofs.Printable.{total-append}
 pub use Rattle.nc_types.specs.Bytes.{Bytes}

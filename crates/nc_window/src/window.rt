@@ -1,14 +1,12 @@
 //! A window on a source: bytes and numbers, one after the other, through a caller's buffer.
 
-ghost use Rattle.std.specs.Prelude.{◌≡◌, ◌+◌, ◌<◌, ◌≤◌, true, length, min, take, drop, IfOk, IfErr};
-ghost use Rattle.std.specs.Bool.{OnTrue};
+ghost use Rattle.std.specs.Prelude.{◌≡◌, ◌+◌, ◌<◌, ◌≤◌, true, length, take, drop, IfOk, OnOk};
 ghost use Rattle.std.specs.Int.{w32, w64};
 ghost use Rattle.nc_base.specs.Grammar.{count_part, ignored, number};
 ghost use Rattle.nc_base.specs.Parts.{bytes};
 ghost use Rattle.nc_types.specs.Versions.{count_width};
 ghost use Rattle.nc_base.specs.declared.fault.FormatFault.TheVariants.{HeaderTruncated};
 ghost use Rattle.devices.specs.code.SourceReads.{AreFrom};
-ghost use Rattle.nc_window.specs.declared.head_fault.HeadFault.TheVariants.{ReadFailed};
 
 use crate::head_fault::HeadFault;
 use byteorder::{BigEndian, ByteOrder};
@@ -17,8 +15,8 @@ use nc_base::{FormatFault, Sequence, Version};
 use std::alloc::Global;
 
 /// A window on a source: a caller's buffer that holds `filled` bytes of the source, from the offset `base` on. The first `pos` of them have
-/// been used, which means read or passed over. The source has `len` bytes. The functions here, but for [`hold`](Window::hold), read on from
-/// the source only when all `filled` bytes have been used.
+/// been used, which means read or passed over. The source has `len` bytes. The functions here read on from the source only when all
+/// `filled` bytes have been used.
 ///
 /// Unless its own comment says otherwise, a function that reads through the window errs with `HeaderTruncated` if the source ends too
 /// early, with `ReadFailed` if the source fails, and with `OutOfMemory` if an allocation fails. Its other errors are those that its own
@@ -69,7 +67,7 @@ impl<'a, S: Source> Window<'a, S> {
 }
 
 impl<S: Source> Window<'_, S> {
-    ghost use Rattle.nc_window.specs.code.Window.{FailsOnly, Filled, HasRoom, Holds, IsAdvanced, Kept, Read, Ready, Refilled, TookByte, TookSome, held, left, next_of};
+    ghost use Rattle.nc_window.specs.code.Window.{FailsOnly, Filled, Holds, IsAdvanced, Kept, Read, Ready, Refilled, TookByte, TookSome, TookUpTo, left, next_of};
 
     /// Reads on in the source, once: the bytes that come take the place of those in the window. Returns true if at least one came,
     /// otherwise false: a transparent source ([`Source`]) has no more then. If the source fails, it errs with `ReadFailed`, and the window
@@ -125,60 +123,6 @@ impl<S: Source> Window<'_, S> {
             return Err(HeadFault::Format(FormatFault::HeaderTruncated));
         }
         Ok(())
-    }
-
-    /// Reads once from the source, appends the bytes to those that the window holds, leaves them unused, and returns how many came. Needs room
-    /// for a byte in the buffer, and a source that has one more. Errs with `ReadFailed` if the source fails.
-    fn read_more(&mut self) -> Result<usize, HeadFault>
-        requires room { self.old.filled < length self.old.buf.now }
-        requires inside { self.old.base + self.old.filled < self.old.len }
-        ensures kept { Kept self.old self.new }
-        ensures cause { FailsOnly self.old self.new result }
-        ensures base { self.new.base ≡ self.old.base }
-        ensures pos { self.new.pos ≡ self.old.pos }
-        ensures more { IfOk result (λ n. self.new.filled ≡ self.old.filled + n) }
-        ensures some { OnTrue S.is_transparent (IfOk result (λ n. 0 < n)) }
-        ensures failed { IfErr result (λ e. e ≡ ReadFailed) }
-    {
-        let at = self.base + self.filled as u64;
-        let room = self.buf.len() - self.filled;
-        let wanted = if self.len - at < room as u64 {
-            (self.len - at) as usize
-        } else {
-            room
-        };
-        let end = self.filled + wanted;
-        let n = self.source.read_at(at, &mut self.buf[self.filled..end])?;
-        self.filled += n;
-        Ok(n)
-    }
-
-    /// Reads until the window holds the next `n` bytes, or all that are left if they are fewer, and leaves them unused. A clause says so of
-    /// a transparent source alone. Needs a buffer with room for them after the used bytes. Errs with `ReadFailed` if the source fails.
-    pub fn hold(&mut self, n: usize) -> Result<(), HeadFault>
-        requires { HasRoom n self.old }
-        ensures kept { Kept self.old self.new }
-        ensures cause { FailsOnly self.old self.new result }
-        ensures unused { next_of self.new ≡ next_of self.old }
-        ensures held { OnTrue S.is_transparent
-            (IfOk result (λ _. Holds (min n (length (left self.new))) self.new)) }
-        ensures failed { IfErr result (λ e. e ≡ ReadFailed) }
-    {
-        for _ in 0..n {
-            let at = self.base + self.filled as u64;
-            if self.len <= at || n <= self.filled - self.pos {
-                return Ok(());
-            }
-            self.read_more()?;
-        }
-        Ok(())
-    }
-
-    /// Returns the bytes that the window holds and that haven't been used, and leaves them unused.
-    pub fn held(&self) -> &[u8]
-        ensures { result.now ≡ held self.now }
-    {
-        &self.buf[self.pos..self.filled]
     }
 
     /// Reads one byte, and returns it. Errs with `HeaderTruncated` if no byte is left, and with `ReadFailed` if the source fails.
@@ -334,6 +278,23 @@ impl<S: Source> Window<'_, S> {
             missing -= self.read_some(&mut content, missing)? as u128;
         }
         Ok(content)
+    }
+
+    /// Reads the next `n` bytes, or all that are left if they are fewer, and appends them to `out`. Of a source that isn't transparent
+    /// ([`Source`]), fewer may come. Errs with `ReadFailed` if the source fails, and with `OutOfMemory` if an allocation fails.
+    pub fn read_up_to(&mut self, out: &mut Sequence<u8>, n: u64) -> Result<(), HeadFault>
+        ensures kept { Kept self.old self.new }
+        ensures cause { FailsOnly self.old self.new result }
+        ensures bytes { OnOk result (TookUpTo self.old self.new n out.old out.new) }
+    {
+        for _ in 0..n {
+            match self.byte() {
+                Ok(b) => out.push(b)?,
+                Err(HeadFault::Format(_)) => return Ok(()),
+                Err(e) => return Err(e),
+            }
+        }
+        Ok(())
     }
 
     /// Passes over `n` bytes, whatever they are. Errs with `HeaderTruncated` if fewer are left, and with `ReadFailed` if the source fails.

@@ -10,6 +10,7 @@ use nc_report::Kind;
 pub(crate) const KINDS: &[Kind] = &[
     Kind::NotNetcdf,
     Kind::Hdf5,
+    Kind::Hdf5Truncated,
     Kind::Gzip,
     Kind::EmptyFile,
     Kind::UnknownVersion,

@@ -1,5 +1,5 @@
 -- The first fault of a report is that of the first entry that the strict rules refuse.
-use Rattle.nccheck_laws.proofs.Prelude.{nat_tests, list_any, list_any-append, list_any-IsPermutation, Contains, All-cons, Contains-append_right, FormatFault, FloatingType, Bytes, header_part, header_by, run, Entry, lenient, first_refusal, header_fields, Fact, Finding, Report, Indexed, field_at, indexed_from, finding, facts_of, findings_at, field_findings, floating_findings, header_findings, all_findings, IsReport, is_fault, All-contains, All-permutation, left_after, is_floating_in, floating_finding, is_eq, tied_itself, All-head, All-tail, Contains-append_cases, Any-from_list_any, strict_fault, HasNoFault, IsReadable, FindsFirst, FaultlessHeadersAreReadable, FirstFaultIsReaders, min, ◌≡◌, ◌==◌, ◌&&◌, ℕ, ◌+◌, ◌≤◌, ◌⊎◌, inl, inr, Bool, true, false, List, [], ◌∷◌, ◌++◌, length, map, flat_map, Option, Some, None, refl, sym, ap, ◌∙◌, subst, arith, le_refl, All, option_to_list, contains-here, common_steps}
+use Rattle.nccheck_laws.proofs.Prelude.{nat_tests, list_any, list_any-append, list_any-IsPermutation, Contains, All-cons, Contains-append_right, FormatFault, FloatingType, Bytes, header_part, header_by, run, Entry, lenient, first_refusal, header_fields, Fact, Finding, Report, Indexed, field_at, indexed_from, finding, facts_of, findings_at, field_findings, floating_findings, header_findings, all_findings, IsReport, is_fault, All-contains, All-permutation, left_after, is_floating_in, floating_finding, is_eq, tied_itself, All-head, All-tail, Contains-append_cases, Any-from_list_any, strict_fault, HasNoFault, IsReadable, FindsFirst, FaultlessHeadersAreReadable, FirstFaultIsReaders, min, ◌≡◌, ◌==◌, ◌&&◌, ℕ, ◌+◌, ◌≤◌, ◌⊎◌, inl, inr, Bool, true, false, List, [], ◌∷◌, ◌++◌, length, map, flat_map, Option, Some, None, refl, sym, ap, ◌∙◌, subst, arith, le_refl, All, option_to_list, contains-here}
 use Rattle.nc_base.specs.contracts.fault.FormatFaultOrd.TheImpl as faults
 use Rattle.nc_base.specs.contracts.fault.FormatFaultOrd.TheImpl.Laws as fault_laws
 use Rattle.nc_base.proofs.PartPlaces.{stops-in}
@@ -38,14 +38,14 @@ first-told test xs ys is = grind (arith, list_any-append)
 pub later-told : (test : Finding → Bool) (xs ys : List Finding) → list_any test ys ≡ true → list_any test (xs ++ ys) ≡ true
 later-told test xs ys is = grind (arith, list_any-append)
 
-fields-tell : (fault : FormatFault) (i : ℕ) (front : List Entry) (e : Entry) (back : List Entry) → fault_among (facts_of e) ≡ Some fault
-    → list_any (tells fault e.offset) (flat_map findings_at (indexed_from i (front ++ e ∷ back))) ≡ true
-fields-tell fault i [] e back is =
-    first-told (tells fault e.offset) (findings_at (field_at i e)) (flat_map findings_at (indexed_from (i + 1) back))
-    (facts-tell fault (field_at i e) (facts_of e) is)
-fields-tell fault i (x ∷ front) e back is =
-    later-told (tells fault e.offset) (findings_at (field_at i x)) (flat_map findings_at (indexed_from (i + 1) (front ++ e ∷ back)))
-    (fields-tell fault (i + 1) front e back is)
+fields-tell : (start : Bytes) (fault : FormatFault) (i : ℕ) (front : List Entry) (e : Entry) (back : List Entry) → fault_among (facts_of start e) ≡ Some fault
+    → list_any (tells fault e.offset) (flat_map (findings_at start) (indexed_from i (front ++ e ∷ back))) ≡ true
+fields-tell start fault i [] e back is =
+    first-told (tells fault e.offset) (findings_at start (field_at i e)) (flat_map (findings_at start) (indexed_from (i + 1) back))
+    (facts-tell fault (field_at i e) (facts_of start e) is)
+fields-tell start fault i (x ∷ front) e back is =
+    later-told (tells fault e.offset) (findings_at start (field_at i x)) (flat_map (findings_at start) (indexed_from (i + 1) (front ++ e ∷ back)))
+    (fields-tell start fault (i + 1) front e back is)
 
 -- the first floating type
 floating-tells : (i : ℕ) (front : List Entry) (e : Entry) (back : List Entry) → All (λ (x : Entry). refusal_of x ≡ None) front
@@ -56,11 +56,19 @@ floating-tells i (x ∷ front) e back none is =
     let first = quiet-type x (All-head (λ (x : Entry). refusal_of x ≡ None) x front none) in
     grind (arith, floating-tells (i + 1) front e back (All-tail (λ (x : Entry). refusal_of x ≡ None) x front none) is)
 
-entries-tell : (fault : FormatFault) (front : List Entry) (e : Entry) (back : List Entry)
+entries-tell : (start : Bytes) (fault : FormatFault) (front : List Entry) (e : Entry) (back : List Entry)
     → All (λ (x : Entry). refusal_of x ≡ None) front → refusal_of e ≡ Some fault
-    → list_any (tells fault e.offset) (header_findings (front ++ e ∷ back)) ≡ true
+    → list_any (tells fault e.offset) (header_findings start (front ++ e ∷ back)) ≡ true
 unfolding header_findings field_findings floating_findings
-entries-tell fault front e back none refused = grind (arith, common_steps, list_any-append, facts-fault, floating-fault, fields-tell, floating-tells)
+entries-tell start fault front e back none refused = by-floating (is_floating_in e.place.field e.content) refl
+  where
+    by-floating : (b : Bool) → is_floating_in e.place.field e.content ≡ b
+        → list_any (tells fault e.offset) (header_findings start (front ++ e ∷ back)) ≡ true
+    by-floating true is =
+        let told = floating-tells 0 front e back none is in grind (arith, list_any-append, floating-fault e fault refused is)
+    by-floating false plain =
+        let told = fields-tell start fault 0 front e back (facts-fault start e.size e.content e.place.field e.place.owner e.fault plain ∙ refused) in
+        grind (arith, list_any-append)
 
 -- ---- no fault before it
 
@@ -88,7 +96,7 @@ report-tells : (bytes : Bytes) (r : Report) (fault : FormatFault) (rest : Bytes)
 unfolding all_findings
 report-tells bytes r fault rest report first =
     sym (list_any-IsPermutation (tells fault first.entry.offset) (all_findings r.listing) r.findings report.all)
-    ∙ grind (arith, list_any-append, entries-tell fault first.front first.entry first.back first.before first.refused)
+    ∙ grind (arith, list_any-append, entries-tell r.listing.start fault first.front first.entry first.back first.before first.refused)
 
 finds-first : (bytes : Bytes) (r : Report) (fault : FormatFault) (rest : Bytes) (end : ℕ) → IsReport bytes r
     → FirstRefused (length bytes) r.listing.entries fault rest → end + length rest ≡ length bytes → FindsFirst r fault end

@@ -1,7 +1,8 @@
 -- What a report finds about the layout is what is found in the layout of the header; so it finds that values are missing exactly if some
 -- variable of the header has a first missing value.
-use Rattle.nccheck_laws.proofs.Prelude.{FormatFault, Dim, Header, Var, Bytes, SpellsHeader, reads, stops, Listing, without_values, layout_of, slot_of, Report, indexed, layout_facts, whole_findings, IsReport, var_without_values, list_any, list_any-append, list_any-IsPermutation, strict, Entry, Content, FieldKind, layout_findings, spelled-layout, Fact, Finding, Indexed, field_at, indexed_from, finding, facts_with, findings_at, field_findings, floating_findings, header_findings, vsize_findings, located, all_findings, has_any, finds, is_of_missing, is_missing, LayoutFact, LayoutFinding, ReportsTellMissingValues, is_of_layout, ◌≡◌, ℕ, ◌+◌, List, [], ◌∷◌, length, map, Ok, refl, ap, arith, Bool, false, flat_map, Option, Some, None, sym, ◌∙◌, common_steps}
+use Rattle.nccheck_laws.proofs.Prelude.{FormatFault, Dim, Header, Var, Bytes, SpellsHeader, reads, stops, Listing, without_values, layout_of, slot_of, Report, indexed, layout_facts, whole_findings, IsReport, var_without_values, list_any, list_any-append, list_any-IsPermutation, list_any_none, strict, Entry, Content, FieldKind, layout_findings, spelled-layout, Fact, Finding, Indexed, field_at, indexed_from, finding, facts_with, findings_at, field_findings, floating_findings, header_findings, vsize_findings, located, all_findings, has_any, finds, is_of_missing, is_missing, LayoutFact, LayoutFinding, ReportsTellMissingValues, is_of_layout, ◌≡◌, ℕ, ◌+◌, List, [], ◌∷◌, length, map, Ok, refl, ap, arith, Bool, true, false, flat_map, Option, Some, None, sym, ◌∙◌, common_steps}
 use Rattle.nccheck_laws.proofs.StrictHeaders.{strict-headers}
+use Rattle.nc_findings.specs.declared.entry.Content.TheVariants as content
 use Rattle.nc_findings.specs.declared.finding.Fact.TheVariants as fact
 use Rattle.nccheck_laws.proofs.FaultFindings.{fault-fact}
 use Rattle.nccheck_laws.proofs.MissingValues.{missing-found}
@@ -30,15 +31,17 @@ read-header bytes r h rest report spelled = grind (arith, common_steps, reads, s
 
 -- ---- findings at fields
 
-other-facts : (f : Indexed) (o : Option FormatFault) (place : FieldKind) (size : ℕ) (c : Content)
-    → has_any is_layout (map (finding f) (facts_with o place size c)) ≡ false
-other-facts f (Some fault) place size c = fault-fact (λ x. has_any is_layout (finding f x ∷ []) ≡ false) fault c refl refl refl refl
-other-facts f None place size v4 = grind arith
+other-facts : (start : Bytes) (f : Indexed) (o : Option FormatFault) (place : FieldKind) (size : ℕ) (c : Content)
+    → has_any is_layout (map (finding f) (facts_with start o place size c)) ≡ false
+other-facts start f (Some fault) place size c = fault-fact (λ x. has_any is_layout (finding f x ∷ []) ≡ false) start fault refl refl refl refl
+other-facts start f None place size (content.Number n) = grind arith
+other-facts start f None place size (content.Bytes bs) = grind arith
+other-facts start f None place size c = refl
 
-other-fields : (i : ℕ) (es : List Entry) → has_any is_layout (flat_map findings_at (indexed_from i es)) ≡ false
-other-fields i [] = refl
-other-fields i (e ∷ es) =
-    grind (arith, list_any-append, other-facts (field_at i e) e.fault e.place.field e.size e.content, other-fields (i + 1) es)
+other-fields : (start : Bytes) (i : ℕ) (es : List Entry) → has_any is_layout (flat_map (findings_at start) (indexed_from i es)) ≡ false
+other-fields start i [] = refl
+other-fields start i (e ∷ es) =
+    grind (arith, list_any-append, other-facts start (field_at i e) e.fault e.place.field e.size e.content, other-fields start (i + 1) es)
 
 no-layout : (fs : List Finding) → has_any is_odd fs ≡ false → has_any is_layout fs ≡ false
 no-layout fs plain = fewer is_odd is_layout (λ x none. grind arith) fs plain
@@ -59,6 +62,14 @@ pub record IsOfLayout (test : Fact → Bool) (kind : LayoutFact → Bool) : Type
 pub of-layout : (kind : LayoutFact → Bool) → IsOfLayout (is_of_layout kind) kind
 of-layout kind = record { agree = λ x. refl; other = λ x other. grind arith }
 
+-- the fact is that an HDF5 file is too short
+abbrev pub is_cut : Fact → Bool
+is_cut (fact.Hdf5Truncated file_len end) = true
+is_cut fact = false
+
+of-cut : IsOfLayout is_cut (λ x. false)
+of-cut = record { agree = λ x. refl; other = λ x other. grind arith }
+
 pub of-missing : IsOfLayout is_missing is_of_missing
 of-missing = record { agree = λ x. refl; other = λ x other. grind arith }
 
@@ -68,7 +79,7 @@ unfolding all_findings header_findings field_findings floating_findings
 listing-tells test kind of l h same =
     let fs = indexed l.entries in
     let layout = layout_of h l.end l.file_len in
-    let header = fewer is_layout test of.other (header_findings l.entries) (grind (arith, common_steps, list_any-append, plain-names, plain-attributes, other-fields, no-layout)) in
+    let header = fewer is_layout test of.other (header_findings l.start l.entries) (grind (arith, common_steps, list_any-append, plain-names, plain-attributes, other-fields, no-layout)) in
     let sizes = vsize_findings layout fs in
     let vsizes = fewer is_layout test of.other sizes (no-layout sizes (plain-vsizes layout fs)) in
     let facts = all-located test kind of.agree fs (layout_findings layout) in
@@ -92,7 +103,13 @@ read-tells test kind of bytes r h rest header_end report spelled ends =
     report-tells test kind of bytes r (without_values h) report read.0
     ∙ ap (finds kind) (same-layout h r.listing.end (length bytes) ∙ ap (λ n. layout_of h n (length bytes)) same)
 
--- ---- the law
+-- ---- the laws
+
+-- no file whose header can be read is a short HDF5 file
+pub never-cut : (bytes : Bytes) (r : Report) (h : Header) (rest : Bytes) → IsReport bytes r → SpellsHeader bytes h rest → has_any is_cut r.findings ≡ false
+never-cut bytes r h rest report spelled =
+    report-tells is_cut (λ x. false) of-cut bytes r (without_values h) report (read-header bytes r h rest report spelled).0
+    ∙ list_any_none (λ (l : LayoutFinding). false) (layout_findings (layout_of (without_values h) r.listing.end (length bytes))) (λ k d lt. refl)
 
 pub missing-told : ReportsTellMissingValues
 missing-told bytes r h rest report spelled =

@@ -36,25 +36,25 @@ is_error severity = false
 abbrev tells_error : Fact → Bool
 tells_error fact = is_error (severity_of (kind_of fact))
 
-own-error : (i : ℕ) (e : Entry) (o : Option FormatFault) (fault : FormatFault) → o ≡ Some fault → tells_error (fault_fact fault e.content) ≡ true
-    → has_any tells_error (map (finding (field_at i e)) (facts_with o e.place.field e.size e.content)) ≡ true
-own-error i e o fault is error = rw is (grind arith)
+own-error : (start : Bytes) (i : ℕ) (e : Entry) (o : Option FormatFault) (fault : FormatFault) → o ≡ Some fault → tells_error (fault_fact start fault) ≡ true
+    → has_any tells_error (map (finding (field_at i e)) (facts_with start o e.place.field e.size e.content)) ≡ true
+own-error start i e o fault is error = rw is (grind arith)
 
-finds-error : (len i : ℕ) (es : List Entry) (fs : List Field) (fault : FormatFault) → map seen_by es ≡ map (seen len) fs → HasFault fault fs
-    → is_floating_fault fault ≡ false → has_any tells_error (flat_map findings_at (indexed_from i es)) ≡ true
+finds-error : (start : Bytes) (len i : ℕ) (es : List Entry) (fs : List Field) (fault : FormatFault) → map seen_by es ≡ map (seen len) fs → HasFault fault fs
+    → is_floating_fault fault ≡ false → has_any tells_error (flat_map (findings_at start) (indexed_from i es)) ≡ true
 unfolding seen
-finds-error len i [] [] fault same h plain = absurd h
-finds-error len i [] (f ∷ fs) fault same h plain = absurd cc
-finds-error len i (e ∷ es) [] fault same h plain = absurd cc
-finds-error len i (e ∷ es) (f ∷ fs) fault same (inl is) plain =
+finds-error start len i [] [] fault same h plain = absurd h
+finds-error start len i [] (f ∷ fs) fault same h plain = absurd cc
+finds-error start len i (e ∷ es) [] fault same h plain = absurd cc
+finds-error start len i (e ∷ es) (f ∷ fs) fault same (inl is) plain =
     let first : seen_by e ≡ seen len f = cc in
-    let error = fault-fact (λ x. tells_error x ≡ true) fault e.content refl refl refl (grind arith) in
-    first-told (λ f. tells_error f.fact) (findings_at (field_at i e)) (flat_map findings_at (indexed_from (i + 1) es))
-    (own-error i e e.fault fault (ap (λ (s : Seen). s.fault) first ∙ is) error)
-finds-error len i (e ∷ es) (f ∷ fs) fault same (inr h) plain =
+    let error = fault-fact (λ x. tells_error x ≡ true) start fault refl refl refl (grind arith) in
+    first-told (λ f. tells_error f.fact) (findings_at start (field_at i e)) (flat_map (findings_at start) (indexed_from (i + 1) es))
+    (own-error start i e e.fault fault (ap (λ (s : Seen). s.fault) first ∙ is) error)
+finds-error start len i (e ∷ es) (f ∷ fs) fault same (inr h) plain =
     let others : map seen_by es ≡ map (seen len) fs = cc in
-    later-told (λ f. tells_error f.fact) (findings_at (field_at i e)) (flat_map findings_at (indexed_from (i + 1) es))
-    (finds-error len (i + 1) es fs fault others h plain)
+    later-told (λ f. tells_error f.fact) (findings_at start (field_at i e)) (flat_map (findings_at start) (indexed_from (i + 1) es))
+    (finds-error start len (i + 1) es fs fault others h plain)
 
 -- if reading stops, then an error is found
 stopped-finds : (bytes : Bytes) (r : Report) (fault : FormatFault) → IsReport bytes r → r.listing.header ≡ Err fault
@@ -65,7 +65,7 @@ stopped-finds bytes r fault report same =
     let rest = report.listing.rest in
     let told = stops (header_by lenient) bytes fault rest (subst (IsOutcome bytes rest) same report.listing.header) in
     let shown = subst (λ o. Shows o (fields [] (header_by lenient) bytes)) told (shown-faults bytes) in
-    let found = finds-error (length bytes) 0 l.entries (fields [] (header_by lenient) bytes) fault report.listing.entries shown.0 shown.1 in
+    let found = finds-error l.start (length bytes) 0 l.entries (fields [] (header_by lenient) bytes) fault report.listing.entries shown.0 shown.1 in
     sym (list_any-IsPermutation (λ (f : Finding). tells_error f.fact) (all_findings l) r.findings report.all)
     ∙ grind (arith, list_any-append)
 

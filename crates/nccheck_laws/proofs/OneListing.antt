@@ -1,5 +1,5 @@
 -- Each list of bytes has one listing.
-use Rattle.nccheck_laws.proofs.Prelude.{Header, FormatFault, Bytes, Step, header_by, Outcome, run, reads, stops, Entry, Listing, Field, fields, seen_by, seen, lenient, IsOutcome, with_rest, left_after, Tells, tells, shorter, IsListing, ◌≡◌, ℕ, ◌-◌, List, [], ◌∷◌, length, map, Result, Ok, Err, refl, sym, ap, ap₂, ◌∙◌, arith}
+use Rattle.nccheck_laws.proofs.Prelude.{Header, FormatFault, Bytes, Step, header_by, Outcome, run, reads, start_of, stops, Entry, Listing, Field, fields, seen_by, seen, lenient, IsOutcome, with_rest, left_after, Tells, tells, shorter, IsListing, ◌≡◌, ℕ, ◌-◌, List, [], ◌∷◌, length, map, Result, Ok, Err, refl, sym, ap, ap₂, ◌∙◌, arith}
 use Rattle.nccheck_laws.proofs.FieldPlaces.{ArePlaced, placed-header}
 
 -- ---- entries
@@ -60,28 +60,29 @@ pub listing_of : (bytes : Bytes) → (l : Listing) × IsListing bytes l
 listing_of bytes =
     let o = run (header_by lenient) bytes in
     let e = entries-of (length bytes) (fields [] (header_by lenient) bytes) (placed-header bytes) in (
-      record { entries = e.0; header = result_of o; end = length bytes - length (rest_of o); file_len = length bytes },
+      record { entries = e.0; header = result_of o; start = start_of bytes; end = length bytes - length (rest_of o); file_len = length bytes },
       record {
         entries = e.1;
         rest = rest_of o;
         header = is-outcome bytes o (tells (header_by lenient) bytes);
+        start = refl;
         end = omega (arith, shorter (header_by lenient) bytes, rest-left o);
         file_len = refl;
       },
     )
 
-same-listing : (es ds : List Entry) (h g : Result Header FormatFault) (end other file_len more : ℕ) → es ≡ ds → h ≡ g → end ≡ other
+same-listing : (es ds : List Entry) (h g : Result Header FormatFault) (start begin : Bytes) (end other file_len more : ℕ) → es ≡ ds → h ≡ g → start ≡ begin → end ≡ other
     → file_len ≡ more
-    → (let one : Listing = record { entries = es; header = h; end = end; file_len = file_len } in
-    let two : Listing = record { entries = ds; header = g; end = other; file_len = more } in
+    → (let one : Listing = record { entries = es; header = h; start = start; end = end; file_len = file_len } in
+    let two : Listing = record { entries = ds; header = g; start = begin; end = other; file_len = more } in
     one ≡ two)
-same-listing es ds h g end other file_len more entries headers ends lens = cc
+same-listing es ds h g start begin end other file_len more entries headers starts ends lens = cc
 
 -- two listings of the same bytes are the same
 pub one-listing : (bytes : Bytes) (k l : Listing) → IsListing bytes k → IsListing bytes l → k ≡ l
 one-listing bytes k l one two =
     let told = sym (outcome-told bytes one.rest k.header one.header) ∙ outcome-told bytes two.rest l.header two.header in
     let same = same-outcome k.header l.header one.rest two.rest told in
-    same-listing k.entries l.entries k.header l.header k.end l.end k.file_len l.file_len
-    (entries-told k.entries l.entries (one.entries ∙ sym two.entries)) same.0
+    same-listing k.entries l.entries k.header l.header k.start l.start k.end l.end k.file_len l.file_len
+    (entries-told k.entries l.entries (one.entries ∙ sym two.entries)) same.0 (one.start ∙ sym two.start)
     (omega (arith, one.end, two.end, ap length same.1)) (one.file_len ∙ sym two.file_len)

@@ -27,12 +27,11 @@ pub use Rattle.nc_base.specs.declared.fault.FormatFault.TheVariants.{BadCount, B
 pub use Rattle.nc_base.specs.declared.header.NumRecs.TheVariants.{Known}
 pub use Rattle.nc_fields.proofs.Checks.{IsField, bytes-field, decoded-field, fault_in}
 pub use Rattle.nc_fields.specs.Entries.{Seen, field_steps, owner_steps, seen_by, steps_of, whole_content}
-pub use Rattle.nc_findings.specs.Contents.{hdf5_signature}
 unfoldable pub use Rattle.nc_fields.specs.Entries.{seen}
 pub use Rattle.nc_fields.specs.Fields.{Field}
 unfoldable pub use Rattle.nc_fields.specs.Fields.{fields}
 pub use Rattle.nc_fields.specs.Lenient.{any_length_limit, is_no_control, lenient, may_be_name}
-pub use Rattle.nc_fields.specs.Listings.{IsListing, IsOutcome}
+pub use Rattle.nc_fields.specs.Listings.{IsListing, IsOutcome, start_of}
 pub use Rattle.nc_findings.specs.declared.{listing.Listing.Listing, entry.Content.Content, entry.Entry.Entry, place.FieldKind.FieldKind, place.Owner.Owner, place.Place.Place, layout_fact.Block.Block, layout_fact.LayoutFact.LayoutFact, layout_fact.LayoutFinding.LayoutFinding, layout_fact.Slab.Slab, finding.Fact.Fact, finding.Finding.Finding, report.Report.Report, kind.Severity.Severity}
 pub use Rattle.nc_window.proofs.PartRuns.{shorter}
 pub use Rattle.nc_layout.proofs.BlockOrder.{contains-cases, contains-filter, contains-here, contains-none, contains-there, filter-contains}
@@ -64,6 +63,7 @@ unfoldable pub use Rattle.nc_rules.specs.FieldRules.{field_findings, floating_fi
 unfoldable pub use Rattle.nc_rules.specs.HeaderRules.{header_findings}
 pub use Rattle.nc_rules.specs.Indexed.{Indexed, each_after, each_before, field_at, finding, indexed, indexed_from}
 pub use Rattle.nc_rules.specs.NameRules.{duplicate_name, is_first}
+pub use Rattle.nc_rules.specs.Superblocks.{cut_before, hdf5_truncated, is_hdf5, least_length}
 unfoldable pub use Rattle.nc_rules.specs.NameRules.{name_findings}
 pub use Rattle.nc_report.specs.Reports.{IsReport}
 pub use Rattle.nc_rules.specs.Findings.{finding_cmp}

@@ -149,7 +149,7 @@ spelling-quiet bytes r h rest report s =
     let found : any_spelling r.findings
     ≡ (any_odd fs || any_spelling (vsize_findings (layout_of h l.end l.file_len) (indexed l.entries))) =
     sym (list_any-IsPermutation (λ (f : Finding). is_of_spelling f.fact) (all_findings l) r.findings report.all)
-    ∙ grind (arith, list_any-append, header-odd l.entries fs are, whole-spelling l h (read-header bytes r h rest report s).0) in (
+    ∙ grind (arith, list_any-append, header-odd l.start l.entries fs are, whole-spelling l h (read-header bytes r h rest report s).0) in (
       λ quiet. (grind arith, sized.0 (sizes.0 (grind arith))),
       λ both. let quiet = sizes.1 (sized.1 both.1) in grind (arith, both.0),
     )

@@ -39,6 +39,7 @@ same-layout v0 v1 e = grind (arith, both, number, same-block, same-slab, option)
 same-fact : (a b : Fact) → facts.ghosts.cmp a b ≡ Equal → a ≡ b
 same-fact (fact.Fault a) (fact.Fault b) e = ap fact.Fault (same-fault a b e)
 same-fact fact.Hdf5 fact.Hdf5 e = refl
+same-fact (fact.Hdf5Truncated i m) (fact.Hdf5Truncated k n) e = grind (arith, both, number)
 same-fact fact.Gzip fact.Gzip e = refl
 same-fact fact.EmptyFile fact.EmptyFile e = refl
 same-fact fact.NameCharacters fact.NameCharacters e = refl

@@ -57,10 +57,10 @@ fact-none : (g : Indexed) (b : Bool) (x : Fact) (others : List Fact) → is_of_s
     → any_spelling (map (finding g) (option_to_list (then_some b x) ++ others)) ≡ any_spelling (map (finding g) others)
 fact-none g v1 x others is = grind arith
 
-found-odd : (place : FieldKind) (o : Owner) (size : ℕ) (g : Indexed) (f : Field) (fault : Option FormatFault) (c : Content) → fault ≡ None
+found-odd : (start : Bytes) (place : FieldKind) (o : Owner) (size : ℕ) (g : Indexed) (f : Field) (fault : Option FormatFault) (c : Content) → fault ≡ None
     → c ≡ whole_content (field_steps place ++ owner_steps o) f.size f.start
-    → any_spelling (map (finding g) (facts_with fault place size c)) ≡ odd_padding (field_steps place ++ owner_steps o) f
-found-odd place o size g f fault c sound is = rw (sound, is) (grind (arith, fact-none))
+    → any_spelling (map (finding g) (facts_with start fault place size c)) ≡ odd_padding (field_steps place ++ owner_steps o) f
+found-odd start place o size g f fault c sound is = rw (sound, is) (grind (arith, fact-none))
 
 choice-none : (b : Bool) (o : Option Finding) → any_spelling (option_to_list o) ≡ false
     → any_spelling (option_to_list (if b then o else None)) ≡ false
@@ -83,22 +83,22 @@ list-odd first place o g k es f fs are is = grind (arith, tag-odd, choice-none)
 
 -- ---- what is found at all of them
 
-fields-odd : (all : List Indexed) (k : ℕ) {es : List Entry} {fs : List Field} → AreOf es fs
-    → (any_spelling (field_findings (indexed_from k es)) || any_spelling (each_before (attribute_finding all) (indexed_from k es)))
+fields-odd : (start : Bytes) (all : List Indexed) (k : ℕ) {es : List Entry} {fs : List Field} → AreOf es fs
+    → (any_spelling (field_findings start (indexed_from k es)) || any_spelling (each_before (attribute_finding all) (indexed_from k es)))
     ≡ any_odd fs
 unfolding field_findings
-fields-odd all k none = refl
-fields-odd all k (more {e = e} {f = f} {es = es} {fs = fs} is rest) =
+fields-odd start all k none = refl
+fields-odd start all k (more {e = e} {f = f} {es = es} {fs = fs} is rest) =
     let g = field_at k e in
-    let alone = found-odd e.place.field e.place.owner e.size g f e.fault e.content is.sound is.content
+    let alone = found-odd start e.place.field e.place.owner e.size g f e.fault e.content is.sound is.content
     ∙ ap (λ steps. odd_padding steps f) is.steps in
     let lists = list-odd (is_first all g) e.place.field e.place.owner g (k + 1) es f fs rest is.content
     ∙ ap (λ steps. odd_list steps f fs) is.steps in
-    grind (arith, list_any-append, fields-odd all (k + 1) rest)
+    grind (arith, list_any-append, fields-odd start all (k + 1) rest)
 
-pub header-odd : (es : List Entry) (fs : List Field) → AreOf es fs → any_spelling (header_findings es) ≡ any_odd fs
+pub header-odd : (start : Bytes) (es : List Entry) (fs : List Field) → AreOf es fs → any_spelling (header_findings start es) ≡ any_odd fs
 unfolding header_findings floating_findings name_findings attribute_findings
-header-odd es fs are = grind (arith, list_any-append, fields-odd (indexed es) 0 are, names-fail is_of_spelling (λ n. refl) [] (indexed es))
+header-odd start es fs are = grind (arith, list_any-append, fields-odd start (indexed es) 0 are, names-fail is_of_spelling (λ n. refl) [] (indexed es))
 
 -- ---- fields that are as they are written
 

@@ -8,13 +8,13 @@ use Rattle.nc_findings.specs.Kinds.{kind_of}
 use Rattle.nccheck_laws.specs.FaultLaws.{finds_missing}
 use Rattle.nccheck_laws.specs.ReportLaws.{MissingValuesStopDumps, is_truncated, stops_dump}
 use Rattle.nccheck_laws.proofs.FirstFaults.{faultless}
-use Rattle.nccheck_laws.proofs.LayoutFacts.{missing-told, read-header}
+use Rattle.nccheck_laws.proofs.LayoutFacts.{is_cut, missing-told, never-cut, read-header}
 use Rattle.nccheck_laws.proofs.MissingValues.{none-lack, all-have, unmapped}
 use Rattle.nccheck_laws.proofs.TruncatedDumps.{TellsEndings, dump-ends, is_whole}
 
--- ---- what stops a dump: a fault, and missing values
+-- ---- what stops a dump: a fault, missing values, and an HDF5 file that is too short
 
-stops-is : (x : Fact) → stops_dump (kind_of x) ≡ (is_fault x || is_missing x)
+stops-is : (x : Fact) → stops_dump (kind_of x) ≡ (is_fault x || is_missing x || is_cut x)
 stops-is x = grind arith
 
 none-fault : (r : Report) → FindsWholeFile r → HasNoFault r
@@ -29,7 +29,8 @@ read-whole : (bytes : Bytes) (r : Report) (h : Header) (rest : Bytes) → IsRepo
     → FindsWholeFile r
 read-whole bytes r h rest report spelled none = λ k d lt.
     let sound = (faultless bytes r report).1 (h, rest, spelled) k d lt in
-    grind (arith, stops-is (get_or r.findings k d).fact, list_any_at (λ (f : Finding). is_missing f.fact) r.findings k d lt)
+    let uncut = never-cut bytes r h rest report spelled in
+    grind (arith, stops-is (get_or r.findings k d).fact, list_any_at (λ (f : Finding). is_missing f.fact) r.findings k d lt, list_any_at (λ (f : Finding). is_cut f.fact) r.findings k d lt)
 
 -- ---- datasets
 

@@ -171,8 +171,8 @@ pub fn reports_without_errors_have_values()
 {}
 
 /// States four laws of the report of a file, and does nothing. They name the kinds of findings that stop a dump (`stops_dump`): those of
-/// faults, and [`Kind::Missing`](nc_report::Kind::Missing). `dumped`: no finding has such a kind exactly if `ncdump` prints the whole file:
-/// the dump of all values ends with the whole text.
+/// faults, [`Kind::Hdf5Truncated`](nc_report::Kind::Hdf5Truncated), and [`Kind::Missing`](nc_report::Kind::Missing). `dumped`: no finding
+/// has such a kind exactly if `ncdump` prints the whole file: the dump of all values ends with the whole text.
 ///
 /// `missing`: in a file whose header can be read, values are found to be missing exactly if the dump of all values ends at a missing value.
 ///

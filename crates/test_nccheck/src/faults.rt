@@ -2,10 +2,7 @@
 
 /// Faults of fields that are whole, in the order of the header.
 pub const FAULTS: &str = r#"
-# the signature of HDF5, another byte at its end, and seven bytes of it; those of gzip, with others and alone
-0=894844460d0a1a0a00
-f:0: error: hdf5: magic: found 0x894844460d0a1a0a
-
+# the signature of HDF5 with another byte at its end, and seven bytes of it; those of gzip, with others and alone
 0=894844460d0a1a0d00
 f:0: error: not-netcdf: magic: found 0x894844, expected 0x434446
 
@@ -172,4 +169,76 @@ f:84: violation: duplicate-name: var[1] "x" name: found the name of number 0
 
 CLEAN 158=01
 f:157: violation: padding: var[1] "depth" name padding: found 0x000100, expected 0x000000
+"#;
+
+/// HDF5 files, by their superblocks.
+pub const HDF5: &str = r#"
+# shorter than any superblock: the signature alone, and 47 bytes
+0=894844460d0a1a0a
+f:0: error: hdf5: magic: found 0x894844460d0a1a0a
+f:8: error: hdf5-truncated: data: found 8 bytes, expected at least 48
+
+0=894844460d0a1a0a ..47
+f:0: error: hdf5: magic: found 0x894844460d0a1a0a
+f:47: error: hdf5-truncated: data: found 47 bytes, expected at least 48
+
+# version 0: a file that is its superblock, one with 200 bytes, and one that lacks the last of them
+0=894844460d0a1a0a 13=08 40=30 ..48
+f:0: error: hdf5: magic: found 0x894844460d0a1a0a
+
+0=894844460d0a1a0a 13=08 40=c8 ..200
+f:0: error: hdf5: magic: found 0x894844460d0a1a0a
+
+0=894844460d0a1a0a 13=08 40=c8 ..199
+f:0: error: hdf5: magic: found 0x894844460d0a1a0a
+f:199: error: hdf5-truncated: data: found 199 bytes, expected at least 200
+
+# version 1: the end stands four bytes later, and the file may end inside of it
+0=894844460d0a1a0a01 13=08 ..48
+f:0: error: hdf5: magic: found 0x894844460d0a1a0a
+f:48: error: hdf5-truncated: data: found 48 bytes, expected at least 52
+
+0=894844460d0a1a0a01 13=08 ..51
+f:0: error: hdf5: magic: found 0x894844460d0a1a0a
+f:51: error: hdf5-truncated: data: found 51 bytes, expected at least 52
+
+0=894844460d0a1a0a01 13=08 40=ffffffff34 ..52
+f:0: error: hdf5: magic: found 0x894844460d0a1a0a
+
+0=894844460d0a1a0a01 13=08 40=ffffffff35 ..52
+f:0: error: hdf5: magic: found 0x894844460d0a1a0a
+f:52: error: hdf5-truncated: data: found 52 bytes, expected at least 53
+
+# versions 2 and 3
+0=894844460d0a1a0a0208 28=64 ..100
+f:0: error: hdf5: magic: found 0x894844460d0a1a0a
+
+0=894844460d0a1a0a0208 28=64 ..99
+f:0: error: hdf5: magic: found 0x894844460d0a1a0a
+f:99: error: hdf5-truncated: data: found 99 bytes, expected at least 100
+
+0=894844460d0a1a0a0308 28=0001 ..256
+f:0: error: hdf5: magic: found 0x894844460d0a1a0a
+
+0=894844460d0a1a0a0308 28=0001 ..255
+f:0: error: hdf5: magic: found 0x894844460d0a1a0a
+f:255: error: hdf5-truncated: data: found 255 bytes, expected at least 256
+
+# another version, and offsets of four bytes
+0=894844460d0a1a0a0408 13=08 28=ff 40=ff ..48
+f:0: error: hdf5: magic: found 0x894844460d0a1a0a
+
+0=894844460d0a1a0a 13=04 40=ff ..48
+f:0: error: hdf5: magic: found 0x894844460d0a1a0a
+
+0=894844460d0a1a0a0204 28=ff ..48
+f:0: error: hdf5: magic: found 0x894844460d0a1a0a
+
+# 2^64 - 1, which stands for no end, and the greatest end
+0=894844460d0a1a0a 13=08 40=ffffffffffffffff ..60
+f:0: error: hdf5: magic: found 0x894844460d0a1a0a
+
+0=894844460d0a1a0a 13=08 40=feffffffffffffff ..60
+f:0: error: hdf5: magic: found 0x894844460d0a1a0a
+f:60: error: hdf5-truncated: data: found 60 bytes, expected at least 18446744073709551614
 "#;

@@ -3,7 +3,7 @@
 //! A table is a text: blocks with an empty line between two. A block has the words of a file (`file_of`), and the lines of all that is
 //! wrong or odd in it, if its path is `f`. A line that begins with `#` is a comment.
 
-use crate::faults::{FAULTS, NAMES};
+use crate::faults::{FAULTS, HDF5, NAMES};
 use crate::layouts::{BEGINS, CUT, FIELDS};
 use devices::{CountedRead, MemFile, MemFiles, SliceSink};
 use nccheck::run_with;
@@ -52,7 +52,7 @@ fn expect_lines(rt: &impl Abort, alloc: Global, block: &str) -> Result<(), Alloc
 
 #[test]
 fn files_have_their_lines(rt: HostRuntime) -> Result<(), AllocError> {
-    for table in [FAULTS, NAMES, FIELDS, BEGINS, CUT] {
+    for table in [FAULTS, HDF5, NAMES, FIELDS, BEGINS, CUT] {
         for block in table.split("\n\n") {
             expect_lines(&rt, rt.alloc(), block)?;
         }

@@ -284,6 +284,7 @@ fn listings_have_their_findings(rt: HostRuntime) -> Result<(), AllocError> {
         let listing = Listing {
             entries: listed(rt.alloc(), *fields, *fault)?,
             header: Err(FormatFault::HeaderTruncated),
+            start: Sequence::new(rt.alloc()),
             end: 0,
             file_len: 0,
         };

@@ -6,7 +6,9 @@ use std::alloc::{AllocError, Global};
 use std::io;
 use std::io::{ErrorKind, Read};
 use std::process::Abort;
-use test_files::{CLEAN, COORDINATES, Refusing, TWO_RECORDS, char_bytes, parts_of, patched};
+use test_files::{
+    CLEAN, COORDINATES, Refusing, TWO_RECORDS, char_bytes, file_of, parts_of, patched,
+};
 
 /// How the program is used.
 const USAGE: &str = "usage: nccheck [-q] [-s] [-j] [-0] [-l level] [-i kinds] [file ...]
@@ -72,6 +74,11 @@ const RUNS: &str = r#"
 1 nccheck -i vsize,duplicate-name,gap -s names clean text
 >text:0: error: not-netcdf: magic: found 0x6e6574, expected 0x434446
 >3 checked: 1 with errors, 0 with violations, 0 with notes, 2 with nothing to report; 0 of other formats; 0 not checked
+
+# an HDF5 file that is cut has an error, though HDF5 files are ignored
+1 nccheck -s -i hdf5 hdf5 cut
+>cut:8: error: hdf5-truncated: data: found 8 bytes, expected at least 48
+>1 checked: 1 with errors, 0 with violations, 0 with notes, 0 with nothing to report; 1 of other formats; 0 not checked
 
 # files of other formats, by their first bytes
 0 nccheck -s -i hdf5,gzip hdf5 clean gzip
@@ -379,10 +386,12 @@ fn file<'a>(path: &'a str, bytes: &'a [u8]) -> MemFile<'a> {
 fn runs_end_with_their_status(rt: HostRuntime) -> Result<(), AllocError> {
     let equal_names = patched(rt.alloc(), COORDINATES, 84, b"x")?;
     let names = equal_names.as_slice();
+    let hdf5 = file_of(rt.alloc(), "0=894844460d0a1a0a0208 28=30 ..48")?;
     let files = [
         file("clean", CLEAN),
         file("text", b"netcdf t {\n}\n"),
-        file("hdf5", b"\x89HDF\r\n\x1a\n"),
+        file("hdf5", hdf5.as_slice()),
+        file("cut", b"\x89HDF\r\n\x1a\n"),
         file("gzip", b"\x1f\x8b"),
         file("six", b"CDF\x02"),
         file("five", b"CDF\x05\0\0"),

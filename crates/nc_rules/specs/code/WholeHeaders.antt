@@ -1,5 +1,5 @@
 -- For contracts. Findings that need a whole header.
-use Rattle.std.specs.Prelude.{◌≡◌, ℕ, List, map, slice_get, Option, Some, None, option_map, Ok, Err}
+use Rattle.std.specs.Prelude.{◌≡◌, List, map, slice_get, Option, Some, None, option_map, Ok, Err}
 use Rattle.std.specs.Option.{option_to_list}
 use Rattle.nc_types.specs.declared.version.Version.{Version}
 use Rattle.nc_findings.specs.declared.{listing.Listing.Listing, layout_fact.LayoutFinding.LayoutFinding, finding.Fact.Fact, finding.Finding.Finding}

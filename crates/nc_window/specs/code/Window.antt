@@ -1,5 +1,5 @@
 -- For contracts. A window on a source: what is left of it, and what a reader through it has done.
-use Rattle.std.specs.Prelude.{◌≡◌, ℕ, ◌+◌, ◌-◌, ◌<◌, ◌≤◌, Bool, true, false, List, [], ◌∷◌, ◌++◌, length, take, drop, MatchBool, Result, Ok, Err, IfOk}
+use Rattle.std.specs.Prelude.{◌≡◌, ℕ, ◌+◌, ◌<◌, ◌≤◌, Bool, true, false, List, [], ◌∷◌, ◌++◌, length, take, drop, MatchBool, Result, Ok, Err, IfOk}
 use Rattle.std.specs.Bool.{OnTrue}
 use Rattle.nc_base.specs.declared.fault.FormatFault.TheVariants.{HeaderTruncated}
 use Rattle.nc_base.specs.Parts.{Part}
@@ -22,17 +22,9 @@ next_of w = w.base + w.pos
 abbrev pub left : {S : Type 0} {g : Ghosts S} → Window S g → List ℕ
 left w = drop (next_of w) (source_of w).bytes
 
--- the bytes that the window holds and that are still to be used
-abbrev pub held : {S : Type 0} {g : Ghosts S} → Window S g → List ℕ
-held w = take (w.filled - w.pos) (drop w.pos w.buf.now)
-
 -- the window holds the next n bytes
 abbrev pub Holds : {S : Type 0} {g : Ghosts S} → ℕ → Window S g → Type 0
 Holds n w = w.pos + n ≤ w.filled
-
--- the buffer has room for the next n bytes after those that were used
-abbrev pub HasRoom : {S : Type 0} {g : Ghosts S} → ℕ → Window S g → Type 0
-HasRoom n w = w.pos + n ≤ length w.buf.now
 
 -- a window on this source, with a buffer of this length, that holds nothing yet
 pub record IsNew {S : Type 0} {g : Ghosts S} (source : S) (buffer_len : ℕ) (w : Window S g) : Type 0 where
@@ -124,3 +116,9 @@ abbrev pub TookSome : {S : Type 0} {g : Ghosts S} → Window S g → Window S g 
 TookSome {g = g} old new before out (Ok count) =
     (next_of new ≡ next_of old + count) × (length out ≡ length before + count) × OnTrue g.is_transparent (out ≡ before ++ take count (left old))
 TookSome old new before out (Err e) = Stuck old new e
+
+-- The next n bytes were used, or all that were left if they were fewer, and added to those before. Of a source that isn't transparent,
+-- fewer may have been.
+pub record TookUpTo {S : Type 0} {g : Ghosts S} (old new : Window S g) (n : ℕ) (before out : List ℕ) : Type 0 where
+  pub used : next_of new + length before ≡ next_of old + length out
+  pub same : OnTrue g.is_transparent (out ≡ before ++ take n (left old))

@@ -3,4 +3,4 @@ use Rattle.nc_rules.proofs.field_rules.push_field_findings.Given as goal
 
 abbrev pub invariant-loop-i : goal.invariant-loop-i
 invariant-loop-i l =
-    l.found ++ flat_map findings_at (indexed_from l.i (drop l.i l.entries)) ≡ l.fn.found ++ flat_map findings_at (indexed l.entries)
+    l.found ++ flat_map (findings_at l.start) (indexed_from l.i (drop l.i l.entries)) ≡ l.fn.found ++ flat_map (findings_at l.start) (indexed l.entries)

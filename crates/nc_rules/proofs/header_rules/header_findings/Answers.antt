@@ -10,6 +10,6 @@ pub returns : goal.returns
 unfolding header_findings
 returns c =
     let attributes = c.in_ok-push_attribute_findings.ensures in
-    subst (λ (xs : List Finding). IsPermutation (header_findings c.args.entries.now) xs) (sym attributes.1)
+    subst (λ (xs : List Finding). IsPermutation (header_findings c.args.start.now c.args.entries.now) xs) (sym attributes.1)
     (appended _ _ _ _ attributes.0 _ _ _ _ c.new-found.ensures c.in_ok-push_field_findings.ensures c.in_ok-push_floating_finding.ensures
     c.in_ok-names.ensures.found attributes.2)
