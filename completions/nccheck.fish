@@ -1,5 +1,5 @@
 # Completes the command line of nccheck in fish: its options, levels, kinds (also after a comma), and files.
-set -l kinds hdf5 gzip not-netcdf empty-file unknown-version header-truncated bad-tag bad-count bad-name bad-type bad-shape \
+set -l kinds hdf5 hdf5-truncated gzip not-netcdf empty-file unknown-version header-truncated bad-tag bad-count bad-name bad-type bad-shape \
     two-record-dims too-large bad-offset missing begin-in-header overlap record-place unpadded order after-records \
     large-variable trailing name-characters large-count streaming duplicate-name fill-value not-nfc padding long-name high-rank vsize \
     floating-type unused-records empty-list empty-attribute trailing-nul odd-vsize gap end-padding

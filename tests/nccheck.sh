@@ -16,6 +16,10 @@ verdict whole_files 0
 stdout "cut.nc:500: error: $missing\n"
 run "$nccheck" cut.nc
 verdict cut_file 1
+printf '\211HDF\r\n\032\n\2\10' >hdf5.nc
+stdout "hdf5.nc:10: error: hdf5-truncated: data: found 10 bytes, expected at least 48\n"
+run "$nccheck" -i hdf5 hdf5.nc
+verdict cut_hdf5_file 1
 run "$nccheck" -q cut.nc
 verdict quiet 1
 stdout 'records.nc:4: note: unused-records: numrecs: found 2, expected 0\n'
