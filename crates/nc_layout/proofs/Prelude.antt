@@ -11,10 +11,10 @@ unfoldable pub use Rattle.nc_layout.specs.Findings.{layout_findings}
 pub use Rattle.nc_layout.specs.HeaderLayout.{layout_of, slot_of}
 pub use Rattle.nc_layout.specs.SlotRules.{bytes_before, fixed_slot_at, greatest_begin, has_successor, order}
 unfoldable pub use Rattle.nc_layout.specs.SlotRules.{slot_findings}
-pub use Rattle.nc_layout.specs.Slots.{is_fixed, is_sole_narrow, least, padded_slab_len, record_count, record_slots, slab_in_record}
+pub use Rattle.nc_layout.specs.Slots.{is_fixed, is_sole_narrow, padded_slab_len, record_count, record_slots, slab_in_record}
 unfoldable pub use Rattle.nc_layout.specs.Slots.{record_size, records_begin}
 pub use Rattle.nc_layout.specs.code.PassedSlots.{HasPassed, is_record_slot, next_has_successor, order_after, passed_after}
-pub use Rattle.nc_layout.specs.code.Records.{least_with, slab_if}
+pub use Rattle.nc_layout.specs.code.Records.{slab_if}
 pub use Rattle.nc_layout.specs.code.Sweep.{end_of, findings_at, further, padding_end, reached_with, swept, value_end}
 pub use Rattle.nc_layout.specs.declared.{block_rules.Reached.Reached, blocks.Extent.Extent, file_end.SlabPlace.SlabPlace, slot.FileLayout.FileLayout, slot.Slot.Slot, slot_rules.PassedSlots.PassedSlots}
 pub use Rattle.nc_findings.specs.declared.{layout_fact.Block.Block, layout_fact.LayoutFinding.LayoutFinding}
@@ -28,7 +28,7 @@ pub use Rattle.std.proofs.lemmas.List.Elements.{All-append, All-cons, All-head, 
 pub use Rattle.std.proofs.lemmas.List.Folds.{list_any_at, list_any_none, position_or_len_push}
 pub use Rattle.std.proofs.lemmas.List.Kept.{AllPairs-cons, AllPairs-filter}
 pub use Rattle.std.proofs.lemmas.List.Sorted.{Contains-permutation, IsNonDecreasingBy-from_sort_by_key, IsPermutation-append_comm, IsPermutation-append_left, IsPermutation-append_right, IsPermutation-keeps, IsPermutation-refl, IsPermutation-sym, IsPermutation-trans, answers_always}
-pub use Rattle.std.proofs.lemmas.List.Sums.{sum-map, sum_by-append, sum_by-cons, sum_by-le-sum_by}
+pub use Rattle.std.proofs.lemmas.List.Sums.{sum-map, sum_by-append, sum_by-le-sum_by}
 pub use Rattle.std.specs.List.{AllPairs, Contains, find, list_any, prefix_len, range_with_len, swap}
 pub use Rattle.std.specs.Option.{ForSome, option_map_or, option_to_list}
 pub use Rattle.std.specs.Prelude.{IsPermutation, flat_map}

@@ -1,6 +1,7 @@
 -- Definition. The slabs of a file's variables and the records that they make (`vsize`, `recsize` and `numrecs` of the NetCDF Classic Format
 -- Specification).
-use Rattle.std.specs.Prelude.{ℕ, ◌+◌, ◌-◌, ◌/◌, min, Bool, false, not, if◌then◌else◌, List, [], ◌∷◌, filter, map, fold, sum_by, Option, None, Some}
+use Rattle.std.specs.Prelude.{ℕ, ◌+◌, ◌-◌, ◌/◌, min, Bool, false, not, if◌then◌else◌, List, [], ◌∷◌, filter, map, sum_by, Option}
+use Rattle.std.specs.List.{reduce}
 use Rattle.std.specs.Option.{option_map_or}
 use Rattle.nc_types.specs.Bytes.{padding_len}
 use Rattle.nc_base.specs.declared.header.NumRecs.{NumRecs}
@@ -31,14 +32,9 @@ slab_in_record slots slot = if is_sole_narrow (record_slots slots) then slot.sla
 unfoldable pub record_size : List Slot → ℕ
 record_size slots = sum_by (slab_in_record slots) (record_slots slots)
 
--- the least of some numbers, if there are any
-abbrev pub least : List ℕ → Option ℕ
-least [] = None
-least (n ∷ ns) = Some (fold min n ns)
-
--- where the records begin, if there are record slots
+-- where the records begin: the least begin of a record slot, if there are any
 unfoldable pub records_begin : List Slot → Option ℕ
-records_begin slots = least (map (λ (slot : Slot). slot.begin) (record_slots slots))
+records_begin slots = reduce min (map (λ (slot : Slot). slot.begin) (record_slots slots))
 
 -- how many whole records lie between the begin of the records and the end of the file
 unfoldable pub records_by_length : FileLayout → ℕ

@@ -165,7 +165,7 @@ fn last_record_ends(slots: &[Slot], before: u128, sole_narrow: bool) -> Ends
         if slot.is_record {
             let begin = slot.begin as u128 + before;
             values = values.max(begin + slot.slab as u128);
-            padding = padding.max(begin + slab_in_record(*slot, sole_narrow) as u128);
+            padding = padding.max(begin + slab_in_record(*slot, sole_narrow));
         }
     }
     Ends { values, padding }

@@ -1,12 +1,13 @@
 //! The records of a file: where they begin, how large they are, and how many there are.
 
-ghost use Rattle.std.specs.Prelude.{◌≡◌, ◌≤◌, ◌<◌, ◌^◌, ◌/◌, All, Option, sum_by, if◌then◌else◌};
-ghost use Rattle.nc_layout.specs.Slots.{padded_slab_len, record_slots, is_sole_narrow, slab_in_record, record_size, records_begin};
-ghost use Rattle.nc_layout.specs.Findings.{IsSoundSlot, IsSoundLayout};
-ghost use Rattle.nc_layout.specs.code.Records.{least_with, sole, slab_if, AreRecords};
+ghost use Rattle.std.specs.Prelude.{◌≡◌, ◌<◌, ◌^◌, ◌+◌, ◌/◌, Option, min, sum_by};
+ghost use Rattle.nc_base.specs.Sizes.{record_limit};
+ghost use Rattle.nc_layout.specs.Slots.{padded_slab_len, record_slots, is_sole_narrow, records_begin};
+ghost use Rattle.nc_layout.specs.Findings.{IsSoundLayout};
+ghost use Rattle.nc_layout.specs.code.Records.{sole, slab_if, AreRecords};
 
 use crate::slot::{FileLayout, Slot};
-use nc_base::{NumRecs, padding_len};
+use nc_base::{NumRecs, RECORD_LIMIT, padding_len};
 
 /// What the rules on the layout need of the records of a file, computed once.
 #[derive(Clone, Copy)]
@@ -24,7 +25,7 @@ pub(crate) struct FileRecords {
 }
 
 /// Returns the records of a file with this layout: where they begin, their size and their number. Needs a sound layout (within the limits).
-#[tactic(auto, unfolding(crate::specs::Slots::record_count, crate::specs::Slots::records_by_length))]
+#[tactic(auto, using(crate::proofs::SlotLists::record_size_is, crate::proofs::SlotLists::record_size_le), unfolding(crate::specs::Slots::record_count, crate::specs::Slots::records_by_length))]
 pub(crate) fn file_records(layout: &FileLayout) -> FileRecords
     requires { IsSoundLayout layout.now }
     ensures { AreRecords layout.now result }
@@ -32,7 +33,7 @@ pub(crate) fn file_records(layout: &FileLayout) -> FileRecords
     let slots = layout.slots.as_slice();
     let begin = records_begin(slots);
     let sole_narrow = is_sole_narrow(slots);
-    let size = record_size(slots, sole_narrow);
+    let size = capped_record_bytes(slots, sole_narrow) as u64;
     let by_length = match begin {
         Some(begin) => whole_records(layout.file_len.saturating_sub(begin), size),
         None => 0,
@@ -59,40 +60,41 @@ pub fn padded_slab_len(slot: Slot) -> u64
 }
 
 /// Returns the bytes that the slab takes in a record: padded, or without padding if `sole_narrow` says that no other variable has records
-/// and its values are narrow (less than four bytes). Needs a slab below 2^63 bytes.
-pub(crate) fn slab_in_record(slot: Slot, sole_narrow: bool) -> u64
-    requires { slot.slab < 2 ^ 63 }
-    ensures { result ≡ slab_if sole_narrow slot }
+/// and its values are narrow (less than four bytes).
+pub(crate) fn slab_in_record(slot: Slot, sole_narrow: bool) -> u128
+    ensures bytes { result ≡ slab_if sole_narrow slot }
+    ensures small { result < 2 ^ 65 }
 {
+    let slab = slot.slab as u128;
     if sole_narrow {
-        slot.slab
+        slab
     } else {
-        padded_slab_len(slot)
+        slab + padding_len(slab) as u128
     }
+}
+
+/// Returns the bytes that the slabs of all record variables take in a record ([`slab_in_record`]), or 2^62 + 1 if these are more than 2^62.
+pub(crate) fn capped_record_bytes(slots: &[Slot], sole_narrow: bool) -> u128
+    ensures { result ≡ min (sum_by (slab_if sole_narrow) (record_slots slots.now)) (record_limit + 1) }
+{
+    let mut bytes: u128 = 0;
+    for slot in slots {
+        if slot.is_record {
+            bytes = (bytes + slab_in_record(*slot, sole_narrow)).min(RECORD_LIMIT + 1);
+        }
+    }
+    bytes
 }
 
 /// Returns the offset at which the records begin: the least begin of a record variable, or `None` if there is none.
-#[tactic(auto, using(crate::proofs::SlotLists::records_begin_is))]
 fn records_begin(slots: &[Slot]) -> Option<u64>
     ensures { result ≡ records_begin slots.now }
 {
-    let mut least = None;
-    for slot in slots {
-        if slot.is_record {
-            least = Some(least_with(least, slot.begin));
-        }
-    }
-    least
-}
-
-/// Returns the lesser of `least` and `n`, or `n` if `least` is `None`.
-fn least_with(least: Option<u64>, n: u64) -> u64
-    ensures { result ≡ least_with least n }
-{
-    match least {
-        Some(least) => least.min(n),
-        None => n,
-    }
+    slots
+        .iter()
+        .filter(|slot| slot.is_record)
+        .map(|slot| slot.begin)
+        .min()
 }
 
 /// Returns true if exactly one of the variables is a record variable, and its values have less than four bytes each.
@@ -119,24 +121,6 @@ fn sole_record_slot(slots: &[Slot]) -> Option<Slot>
         }
     }
     sole
-}
-
-/// Returns the number of bytes from a record to the next: the sum of what the record variables take in a record. Needs sound slots (within
-/// the limits), at most 2^62 bytes of padded slabs of record variables, and `sole_narrow` as [`is_sole_narrow`] returns it.
-#[tactic(auto, using(crate::proofs::SlotLists::record_size_is))]
-fn record_size(slots: &[Slot], sole_narrow: bool) -> u64
-    requires sound { All IsSoundSlot slots.now }
-    requires small { sum_by padded_slab_len (record_slots slots.now) ≤ 2 ^ 62 }
-    requires narrow { sole_narrow ≡ is_sole_narrow (record_slots slots.now) }
-    ensures { result ≡ record_size slots.now }
-{
-    let mut size = 0;
-    for slot in slots {
-        if slot.is_record {
-            size += slab_in_record(*slot, sole_narrow);
-        }
-    }
-    size
 }
 
 /// Returns how many whole records of `size` bytes fit into `bytes` bytes, or 0 if `size` is 0.

@@ -1,11 +1,11 @@
 //! The limits that a sound layout keeps.
 
-ghost use Rattle.std.specs.Prelude.{◌≡◌, ◌≤◌, ◌↔◌, All, IsTrue, sum_by, min, ◌+◌};
+ghost use Rattle.std.specs.Prelude.{◌≤◌, ◌↔◌, All, IsTrue, sum_by};
 ghost use Rattle.nc_base.specs.Sizes.{record_limit};
 ghost use Rattle.nc_layout.specs.Slots.{padded_slab_len, record_slots};
 ghost use Rattle.nc_layout.specs.Findings.{IsSoundSlot};
 
-use crate::records::padded_slab_len;
+use crate::records::capped_record_bytes;
 use crate::slot::{FileLayout, Slot};
 use nc_base::RECORD_LIMIT;
 
@@ -44,24 +44,9 @@ fn is_sound_slot(slot: &Slot) -> bool
     slot.slab > 0 && slot.slab <= SLAB_LIMIT && slot.begin < BEGIN_LIMIT
 }
 
-/// Returns true if the padded slabs of the record variables have at most 2^62 bytes together. Needs sound slots (within the limits).
+/// Returns true if the padded slabs of the record variables have at most 2^62 bytes together.
 fn has_small_record(slots: &[Slot]) -> bool
-    requires { All IsSoundSlot slots.now }
     ensures { IsTrue result ↔ (sum_by padded_slab_len (record_slots slots.now) ≤ record_limit) }
 {
-    capped_record_bytes(slots) <= RECORD_LIMIT
-}
-
-/// Returns the bytes of the padded slabs of the record variables together, or 2^62 + 1 if there are more than 2^62. Needs sound slots.
-fn capped_record_bytes(slots: &[Slot]) -> u128
-    requires { All IsSoundSlot slots.now }
-    ensures { result ≡ min (sum_by padded_slab_len (record_slots slots.now)) (record_limit + 1) }
-{
-    let mut bytes: u128 = 0;
-    for slot in slots {
-        if slot.is_record {
-            bytes = (bytes + padded_slab_len(*slot) as u128).min(RECORD_LIMIT + 1);
-        }
-    }
-    bytes
+    capped_record_bytes(slots, false) <= RECORD_LIMIT
 }

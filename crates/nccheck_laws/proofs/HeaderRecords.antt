@@ -1,5 +1,6 @@
 -- The records of a header are those of its slots: their size, their begin and their number.
-use Rattle.nccheck_laws.proofs.Prelude.{common_steps, option_map_or, sum-map, Dim, Header, Var, fixed_vars, least_begin, padded_total, record_size_of, record_vars, records_between, Slot, is_fixed, is_sole_narrow, least, record_count, record_size, records_begin, records_by_length, slot_of, layout_of, slots-total, record_slots-are, fixed_bytes, ◌≡◌, ℕ, ◌-◌, ◌/◌, min, List, [], ◌∷◌, filter, map, fold, refl, ap, arith}
+use Rattle.nccheck_laws.proofs.Prelude.{common_steps, option_map_or, sum-map, Dim, Header, Var, fixed_vars, least_begin, padded_total, record_size_of, record_vars, records_between, Slot, is_fixed, is_sole_narrow, record_count, record_size, records_begin, records_by_length, slot_of, layout_of, slots-total, record_slots-are, fixed_bytes, ◌≡◌, ℕ, ◌-◌, ◌/◌, min, List, [], ◌∷◌, filter, map, fold, refl, ap, arith}
+use Rattle.std.specs.List.{reduce}
 use Rattle.nc_base.specs.Sizes.{record_count as header_record_count, record_size as header_record_size}
 use Rattle.nc_layout.proofs.SlotLists.{record_size_is}
 use Rattle.nccheck_laws.proofs.LayoutBlocks.{min-from}
@@ -34,7 +35,7 @@ least-is dims var (next ∷ vars) = grind (arith, min-from, least-is dims next v
 -- ---- the number of records
 
 records-between : (dims : List Dim) (vars : List Var) (size file_len : ℕ)
-    → option_map_or (λ (begin : ℕ). (file_len - begin) / size) (least (begins dims vars)) 0 ≡ records_between size vars file_len
+    → option_map_or (λ (begin : ℕ). (file_len - begin) / size) (reduce min (begins dims vars)) 0 ≡ records_between size vars file_len
 records-between dims [] size file_len = refl
 records-between dims (var ∷ vars) size file_len = ap (λ (begin : ℕ). (file_len - begin) / size) (least-is dims var vars)
 

@@ -49,7 +49,7 @@ unfoldable pub use Rattle.nc_layout.specs.Findings.{layout_findings}
 pub use Rattle.nc_layout.specs.HeaderLayout.{layout_of, slot_of}
 pub use Rattle.nc_layout.specs.SlotRules.{bytes_before, greatest_begin}
 unfoldable pub use Rattle.nc_layout.specs.SlotRules.{slot_findings}
-pub use Rattle.nc_layout.specs.Slots.{is_fixed, is_sole_narrow, least, padded_slab_len, record_slots, slab_in_record}
+pub use Rattle.nc_layout.specs.Slots.{is_fixed, is_sole_narrow, padded_slab_len, record_slots, slab_in_record}
 unfoldable pub use Rattle.nc_layout.specs.Slots.{record_count, record_size, records_begin, records_by_length}
 pub use Rattle.nc_layout.specs.code.PassedSlots.{is_record_slot}
 pub use Rattle.nc_layout.specs.code.Sweep.{padding_end, value_end}

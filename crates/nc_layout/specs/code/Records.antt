@@ -1,12 +1,7 @@
 -- For contracts. What is computed of the records of a file once and for all.
-use Rattle.std.specs.Prelude.{◌≡◌, ℕ, min, Bool, if◌then◌else◌, List, [], ◌∷◌, Option, None, Some}
+use Rattle.std.specs.Prelude.{◌≡◌, ℕ, Bool, if◌then◌else◌, List, [], ◌∷◌, Option, None, Some}
 use Rattle.nc_layout.specs.declared.{slot.Slot.Slot, slot.FileLayout.FileLayout, records.FileRecords.FileRecords}
 use Rattle.nc_layout.specs.Slots.{padded_slab_len, record_slots, is_sole_narrow, record_size, records_begin, records_by_length, record_count}
-
--- the lesser of two numbers, if there are two
-abbrev pub least_with : Option ℕ → ℕ → ℕ
-least_with None n = n
-least_with (Some least) n = min least n
 
 -- the only slot of these, if there is one
 abbrev pub sole : List Slot → Option Slot
