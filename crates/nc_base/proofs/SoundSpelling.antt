@@ -1,15 +1,21 @@
 -- A header that bytes spell is sound, and its names are valid.
-use Rattle.nc_base.proofs.Prelude.{◌≡◌, ℕ, zero, suc, ◌+◌, ◌<◌, ◌≤◌, Bool, true, false, List, [], ◌∷◌, ◌++◌, length, Option, Some, None, Result, Ok, Err, refl, sym, ap, subst, ◌∙◌, append_assoc, append-nil, arith, not, ◌==◌, ◌&&◌, ◌||◌, if◌then◌else◌, ok_or, All, IsTrue, filter, cond, All-nil, All-cons, ltb-true, IsName, IsSoundAtt, IsSoundVar, IsSoundDim, IsSoundNumRecs, IsSound, HasValidNames, AreDimids, IsDimid, count_limit, has_type, has_record_dim, filter-append, length-append, padded_total, record_vars, record_limit, record_size_of, is_narrow, slab_size, padding_len, slab_limit, leb-true, eqb-true, Part, Spells, dimension_tag, attribute_tag, variable_tag, is_dimid, is_within_limits, count_part, limited_part, name_part, known_type, type_part, each, counted, list_head, list_part, dim_part, dim_after, dim_list, att_part, att_after, att_list, dimid_part, dimid_after, shape_part, var_part, var_after, var_list, numrecs_in, numrecs_part, header_part, strict, header_by, Bytes, FormatFault, Att, Dim, Var, Header, NumRecs, NcType, Version, BadType, FloatingType, BadCount, Known, Streaming}
+use Rattle.nc_base.proofs.Prelude.{◌≡◌, ℕ, zero, suc, ◌+◌, ◌<◌, ◌≤◌, Bool, true, false, List, [], ◌∷◌, ◌++◌, length, Option, Some, None, Result, Ok, Err, refl, sym, ap, subst, ◌∙◌, append_assoc, append-nil, arith, not, ◌==◌, ◌&&◌, ◌||◌, if◌then◌else◌, ok_or, All, IsTrue, filter, cond, All-nil, All-cons, ltb-true, IsName, IsSoundAtt, IsSoundVar, IsSoundDim, IsSoundNumRecs, IsSound, HasValidNames, AreDimids, IsDimid, count_limit, offset_limit, has_type, has_record_dim, filter-append, length-append, padded_total, record_vars, record_limit, record_size_of, is_narrow, slab_size, padding_len, slab_limit, leb-true, eqb-true, Part, Spells, dimension_tag, attribute_tag, variable_tag, is_dimid, is_within_limits, count_part, limited_part, offset_part, name_part, known_type, type_part, each, counted, list_head, list_part, dim_part, dim_after, dim_list, att_part, att_after, att_list, dimid_part, dimid_after, shape_part, var_part, var_after, var_list, numrecs_in, numrecs_part, header_part, strict, header_by, Bytes, FormatFault, Att, Dim, Var, Header, NumRecs, NcType, Version, BadType, FloatingType, BadCount, Known, Streaming}
+use Rattle.nc_base.specs.Grammar.{Rules}
 use Rattle.nc_base.proofs.Printable.{total-append, one-total}
+use Rattle.nc_base.proofs.Tests.{and_parts}
 
 -- a test that was passed
-passed : {A : Type 0} (b : Bool) (x y : A) (wrong : FormatFault) → ◌≡◌ {A = Result A FormatFault} (if b then Ok x else Err wrong) (Ok y) → (b ≡ true) × (x ≡ y)
+pub passed : {A : Type 0} (b : Bool) (x y : A) (wrong : FormatFault) → ◌≡◌ {A = Result A FormatFault} (if b then Ok x else Err wrong) (Ok y) → (b ≡ true) × (x ≡ y)
 passed true x y wrong e = (refl, cc)
 passed false x y wrong e = absurd cc
 
 count-below : (v : Version) (from : Bytes) (n : ℕ) (rest : Bytes) → Spells (count_part v) from n rest → n < count_limit v
 unfolding Spells limited_part
 count-below v from n rest (m, s, e) = let p = passed _ m n _ e in subst (λ k. k < count_limit v) p.1 (ltb-true _ _ p.0)
+
+offset-below : (v : Version) (from : Bytes) (n : ℕ) (rest : Bytes) → Spells (offset_part v) from n rest → n < offset_limit v
+unfolding Spells offset_part
+offset-below v from n rest (m, s, e) = let p = passed _ m n _ e in subst (λ k. k < offset_limit v) p.1 (ltb-true _ _ p.0)
 
 -- a name that was spelled
 pub record IsSoundName (v : Version) (text : Bytes) : Type 0 where
@@ -62,7 +68,7 @@ pub record Listed {A : Type 0} (v : Version) (element : List A → Part A) (xs :
   pub start : Bytes
   pub each : SpellsEach element [] start xs rest
 
-list-elements : {A : Type 0} (v : Version) (tag : ℕ) (element : List A → Part A) (from : Bytes) (xs : List A) (rest : Bytes) → Spells (list_part v tag element) from xs rest → Listed v element xs rest
+pub list-elements : {A : Type 0} (v : Version) (tag : ℕ) (element : List A → Part A) (from : Bytes) (xs : List A) (rest : Bytes) → Spells (list_part v tag element) from xs rest → Listed v element xs rest
 unfolding Spells list_part list_head
 list-elements {A = A} v tag element from xs rest (n, m, (found, m0, tagged, (k, c, e)), t) =
     let es = each-elements element n [] m xs rest t in
@@ -70,7 +76,7 @@ list-elements {A = A} v tag element from xs rest (n, m, (found, m0, tagged, (k, 
     record { count = subst (λ k. k < count_limit v) (p.1 ∙ sym es.count ∙ ap length (sym es.joined)) (count-below v m0 k m c); start = m; each = subst (λ ys. SpellsEach element [] m ys rest) (sym es.joined) es.each }
 
 -- what each spelling of an element gives
-all-each : {A : Type 0} (element : List A → Part A) (P : A → Type 0) → ((before : List A) (from : Bytes) (x : A) (rest : Bytes) → Spells (element before) from x rest → P x)
+pub all-each : {A : Type 0} (element : List A → Part A) (P : A → Type 0) → ((before : List A) (from : Bytes) (x : A) (rest : Bytes) → Spells (element before) from x rest → P x)
     → (xs before : List A) (from rest : Bytes) → SpellsEach element before from xs rest → All P xs
 all-each element P gives [] before from rest s = All-nil P
 all-each element P gives (x ∷ xs) before from rest s = All-cons P x xs (gives before from x s.0 s.1) (all-each element P gives xs (before ++ x ∷ []) s.0 rest s.2)
@@ -161,46 +167,57 @@ atts-sound v from atts rest s =
       names = all-each (att_after strict v) (λ (att : Att). IsName att.name) (λ before from a rest s. (att-sound v from a rest s).1) atts [] es.start rest es.each;
     }
 
--- this variable keeps the limits after those before it
-pub record IsWithinLimits (dims : List Dim) (before : List Var) (var : Var) : Type 0 where
+-- this variable has a sound shape, and keeps the limits after those before it
+pub record IsWithinLimits (v : Version) (dims : List Dim) (before : List Var) (var : Var) : Type 0 where
+  pub shape : IsSoundShape v dims var.dimids
   pub slab : slab_size dims var ≤ slab_limit
   pub record_bytes : padded_total dims (record_vars dims (before ++ var ∷ [])) ≤ record_limit
+  pub begin : var.begin_at < offset_limit v
 
-both-true : (a b : Bool) → (a && b) ≡ true → (a ≡ true) × (b ≡ true)
-both-true a b e = grind arith
+is-within : (v : Version) (dims : List Dim) (before : List Var) (var : Var) → IsSoundShape v dims var.dimids → var.begin_at < offset_limit v
+    → is_within_limits dims (padded_total dims (record_vars dims before)) var.dimids var.ty ≡ true → IsWithinLimits v dims before var
+is-within v dims before var shape begin e =
+    grind (arith, leb-true, one-total, total-append, and_parts)
 
-is-within : (dims : List Dim) (before : List Var) (var : Var) → is_within_limits dims (padded_total dims (record_vars dims before)) var.dimids var.ty ≡ true → IsWithinLimits dims before var
-is-within dims before var e =
-    grind (arith, leb-true, one-total, total-append, both-true)
+-- whatever rules it was spelled by
+pub var-within : (r : Rules) (v : Version) (dims : List Dim) (before : List Var) (from : Bytes) (x : Var) (rest : Bytes) → Spells (var_after r v dims before) from x rest → IsWithinLimits v dims before x
+unfolding Spells var_part
+var-within r v dims before from x rest (text, m, s, (ids, m2, sh, (atts, m3, a, (ty, m4, (t, ts, e), (vsize, m5, vs, (begin, m6, b, (whole, end))))))) =
+    let p = passed _ t ty _ e in
+    subst (IsWithinLimits v dims before) (sym whole)
+    (is-within v dims before (record { name = text; dimids = ids; atts = atts; ty = ty; begin_at = begin })
+    (shape-sound v dims m ids m2 sh) (offset-below v m5 begin m6 b)
+    (subst (λ k. is_within_limits dims (padded_total dims (record_vars dims before)) ids k ≡ true) p.1 p.0))
 
 abbrev HasNames : Var → Type 0
 HasNames var = IsName var.name × All (λ (att : Att). IsName att.name) var.atts
 
-abbrev SoundVar : Version → List Dim → List Var → Var → Type 0
-SoundVar v dims before x = IsSoundVar v dims x × HasNames x × IsWithinLimits dims before x
+abbrev SoundVar : Version → List Dim → Var → Type 0
+SoundVar v dims x = IsSoundVar v dims x × HasNames x
 
-var-sound : (v : Version) (dims : List Dim) (before : List Var) (from : Bytes) (x : Var) (rest : Bytes) → Spells (var_after strict v dims before) from x rest → SoundVar v dims before x
+var-parts : (v : Version) (dims : List Dim) (before : List Var) (from : Bytes) (x : Var) (rest : Bytes) → IsWithinLimits v dims before x → Spells (var_after strict v dims before) from x rest → SoundVar v dims x
 unfolding Spells var_part
-var-sound v dims before from x rest (text, m, s, (ids, m2, sh, (atts, m3, a, (ty, m4, (t, ts, e), (vsize, m5, vs, (begin, m6, b, (whole, end))))))) =
+var-parts v dims before from x rest limits (text, m, s, (ids, m2, sh, (atts, m3, a, (ty, m4, (t, ts, e), (vsize, m5, vs, (begin, m6, b, (whole, end))))))) =
     let named = name-sound v from text m s in
-    let shaped = shape-sound v dims m ids m2 sh in
     let listed = atts-sound v m2 atts m3 a in
     let p = passed _ t ty _ e in
-    let within = is-within dims before (record { name = text; dimids = ids; atts = atts; ty = ty; begin_at = begin }) (subst (λ k. is_within_limits dims (padded_total dims (record_vars dims before)) ids k ≡ true) p.1 p.0) in
-    subst (SoundVar v dims before) (sym whole) (
-      record { name_len = named.len; rank = shaped.rank; shape = shaped.known; att_count = listed.count; atts = listed.sound; ty = subst (λ k. IsTrue (has_type v k)) p.1 (type-sound v m3 t m4 ts); slab = within.slab },
+    let within = subst (IsWithinLimits v dims before) whole limits in
+    subst (SoundVar v dims) (sym whole) (
+      record { name_len = named.len; rank = within.shape.rank; shape = within.shape.known; att_count = listed.count; atts = listed.sound; ty = subst (λ k. IsTrue (has_type v k)) p.1 (type-sound v m3 t m4 ts); slab = within.slab },
       (named.valid, listed.names),
-      within,
     )
+
+var-sound : (v : Version) (dims : List Dim) (before : List Var) (from : Bytes) (x : Var) (rest : Bytes) → Spells (var_after strict v dims before) from x rest → SoundVar v dims x
+var-sound v dims before from x rest s = var-parts v dims before from x rest (var-within strict v dims before from x rest s) s
 
 -- ---- the record size
 
-vars-small : (v : Version) (dims : List Dim) (vars before : List Var) (from rest : Bytes) → SpellsEach (var_after strict v dims) before from vars rest
+pub vars-small : (r : Rules) (v : Version) (dims : List Dim) (vars before : List Var) (from rest : Bytes) → SpellsEach (var_after r v dims) before from vars rest
     → padded_total dims (record_vars dims before) ≤ record_limit → padded_total dims (record_vars dims (before ++ vars)) ≤ record_limit
-vars-small v dims [] before from rest s small = subst (λ (vs : List Var). padded_total dims (record_vars dims vs) ≤ record_limit) (sym (append-nil before)) small
-vars-small v dims (x ∷ vars) before from rest s small =
+vars-small r v dims [] before from rest s small = subst (λ (vs : List Var). padded_total dims (record_vars dims vs) ≤ record_limit) (sym (append-nil before)) small
+vars-small r v dims (x ∷ vars) before from rest s small =
     subst (λ vs. padded_total dims (record_vars dims vs) ≤ record_limit) (append_assoc before (x ∷ []) vars)
-    (vars-small v dims vars (before ++ x ∷ []) s.0 rest s.2 (var-sound v dims before from x s.0 s.1).2.record_bytes)
+    (vars-small r v dims vars (before ++ x ∷ []) s.0 rest s.2 (var-within r v dims before from x s.0 s.1).record_bytes)
 
 one-record_size_of : (narrow : Bool) (slab padding : ℕ) → cond narrow slab (slab + padding) ≤ slab + padding
 one-record_size_of narrow slab padding = grind arith
@@ -222,10 +239,11 @@ numrecs-sound : (v : Version) (from : Bytes) (n : NumRecs) (rest : Bytes) → Sp
 unfolding Spells numrecs_part
 numrecs-sound v from n rest (k, s, e) = numrecs-in v k n e
 
--- what was spelled is sound, and its names are valid
+-- what was spelled is sound, its names are valid, and its begins fit their fields
 pub record IsSoundAndNamed (h : Header) : Type 0 where
   pub sound : IsSound h
   pub names : HasValidNames h
+  pub begins : All (λ (var : Var). var.begin_at < offset_limit h.version) h.vars
 
 pub spelled-sound : (from : Bytes) (h : Header) (rest : Bytes) → Spells header_part from h rest → IsSoundAndNamed h
 unfolding Spells header_by dim_list var_list
@@ -233,7 +251,7 @@ spelled-sound from h rest (v, m, s, (n, m2, ns, (dims, m3, d, (gatts, m4, g, (va
     let ds = list-elements v dimension_tag (dim_after strict v) m2 dims m3 d in
     let listed = atts-sound v m3 gatts m4 g in
     let xs = list-elements v variable_tag (var_after strict v dims) m4 vars m5 vs in
-    let records = vars-small v dims vars [] xs.start m5 xs.each (omega arith) in
+    let records = vars-small strict v dims vars [] xs.start m5 xs.each (omega arith) in
     let packed = record_size_of-le-padded dims (record_vars dims vars) in
     subst IsSoundAndNamed (sym whole)
     (record {
@@ -253,4 +271,5 @@ spelled-sound from h rest (v, m, s, (n, m2, ns, (dims, m3, d, (gatts, m4, g, (va
         gatts = listed.names;
         vars = all-each (var_after strict v dims) HasNames (λ before from x rest s. (var-sound v dims before from x rest s).1) vars [] xs.start m5 xs.each;
       };
+      begins = all-each (var_after strict v dims) (λ (var : Var). var.begin_at < offset_limit v) (λ before from x rest s. (var-within strict v dims before from x rest s).begin) vars [] xs.start m5 xs.each;
     })

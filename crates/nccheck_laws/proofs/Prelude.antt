@@ -18,7 +18,7 @@ pub use Rattle.nc_base.specs.Places.{distance, ends_after, first_missing, slab_s
 unfoldable pub use Rattle.nc_base.specs.Places.{value_offsets}
 pub use Rattle.nc_base.specs.Sizes.{has_record_dim, is_record_var, least_begin, padded_size, padded_total, product, record_size_of, record_vars, records_between, slab_lens, slab_size}
 pub use Rattle.nc_types.specs.Types.{code_of, size_of}
-pub use Rattle.nc_types.specs.Versions.{count_limit, count_width, offset_limit, offset_width, vsize_of}
+pub use Rattle.nc_types.specs.Versions.{count_limit, count_width, offset_width, vsize_of}
 pub use Rattle.nc_base.specs.code.PartRuns.{IsPrintable, Outcome, StopsWith, and_then, with_rest}
 unfoldable pub use Rattle.nc_base.specs.code.PartRuns.{left_after, run}
 pub use Rattle.nc_base.specs.declared.{dataset.Dataset.Dataset, fault.FormatFault.FormatFault, header.Att.Att, header.Dim.Dim, header.Header.Header, header.NumRecs.NumRecs, header.Var.Var}

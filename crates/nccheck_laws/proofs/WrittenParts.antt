@@ -1,11 +1,10 @@
 -- A header is spelled as it is written exactly if its fields are as they are written.
-use Rattle.nccheck_laws.proofs.Prelude.{Text, attribute_tag, att_after, is_name, BadName, HeaderTruncated, nat_tests, common_steps, w32, FormatFault, Dim, Var, Header, Version, BadCount, Bytes, count_width, padded_size, Step, Part, under, Spells, Tag, Count, Item, Vsize, strict, checked, variable_tag, dimid_after, var_after, vsize_of, header_part, number, limited_part, offset_part, name_part, type_part, each, counted, list_head, list_part, dim_part, dim_list, att_part, att_list, dimid_part, shape_part, var_part, var_list, version_part, magic_part, numrecs_part, header_by, Field, fields, AreWritten, bytes_eq, Att, NcType, TooLarge, count_limit, is_within_limits, count_part, first, drop-append_seam, mul-div_cancel, NumRecs, BadTag, code_of, type_in, WrittenFieldsAreCanonical, done, bytes, decoded, chain, Padding, ignored, AreBytes, print, IsPrintable, printed, Width, to_be_bytes, has_nonzero, All-nil, All-cons, All-append, SpellsHeader, header_fields, lenient, without_values, offset_limit, header_spelling, header-printable, CanonicalFieldsAreWritten, ◌≡◌, ℕ, suc, zero, ◌==◌, ◌||◌, not, Bool, true, false, List, [], ◌∷◌, ◌++◌, length, take, drop, Some, Ok, refl, sym, ap, ◌∙◌, subst, arith, append_assoc, append-nil, codes, if◌then◌else◌, slice_get, eqb-true, replicate, ◌<◌, All}
+use Rattle.nccheck_laws.proofs.Prelude.{Text, attribute_tag, att_after, is_name, BadName, HeaderTruncated, nat_tests, common_steps, w32, FormatFault, Dim, Var, Header, Version, BadCount, Bytes, count_width, padded_size, Step, Part, under, Spells, Tag, Count, Item, Vsize, strict, checked, variable_tag, dimid_after, var_after, vsize_of, header_part, number, limited_part, offset_part, name_part, type_part, each, counted, list_head, list_part, dim_part, dim_list, att_part, att_list, dimid_part, shape_part, var_part, var_list, version_part, magic_part, numrecs_part, header_by, Field, fields, AreWritten, bytes_eq, Att, NcType, TooLarge, count_limit, is_within_limits, count_part, first, drop-append_seam, mul-div_cancel, NumRecs, BadTag, code_of, type_in, WrittenFieldsAreCanonical, done, bytes, decoded, chain, Padding, ignored, AreBytes, print, IsPrintable, printed, Width, to_be_bytes, has_nonzero, SpellsHeader, header_fields, lenient, without_values, header_spelling, header-printable, CanonicalFieldsAreWritten, ◌≡◌, ℕ, suc, zero, ◌==◌, ◌||◌, not, Bool, true, false, List, [], ◌∷◌, ◌++◌, length, take, drop, Some, Ok, refl, sym, ap, ◌∙◌, subst, arith, append_assoc, append-nil, codes, if◌then◌else◌, slice_get, eqb-true, replicate}
 use lib.ListN.{length-replicate}
 use Rattle.nc_types.specs.Bytes.{padding_len}
 use Rattle.std.proofs.lemmas.Slice.Eq.{bytes_eq-Decides}
 use Rattle.nc_base.proofs.SoundLaws.{some_size}
-use Rattle.nc_base.proofs.SoundSpelling.{spelled-sound}
-use Rattle.nc_layout.proofs.SpelledLayouts.{each-keeps, passed}
+use Rattle.nc_base.proofs.SoundSpelling.{passed, spelled-sound}
 use Rattle.nccheck_laws.proofs.StrictHeaders.{strict-fields, strict-headers}
 use Rattle.nccheck_laws.proofs.Vsizes.{spelled-whole}
 use Rattle.nccheck_laws.proofs.Spellings.{odd_padding, odd_list, any_odd, IsSized, AreSized, are-written}
@@ -332,29 +331,12 @@ pub written-fields : WrittenFieldsAreCanonical
 written-fields from h rest are s written =
     kept h [] [] header_part from h rest s (kept-header h from rest) are (subst (AreWritten h) (strict-fields from h rest s) written)
 
--- ---- begins that are read
-
-abbrev HasFittingBegin : Version → Var → Type 0
-HasFittingBegin v var = var.begin_at < offset_limit v
-
-begins-fit : (v : Version) (dims : List Dim) (before : List Var) (from : Bytes) (x : Var) (rest : Bytes)
-    → Spells (var_after strict v dims before) from x rest → All (HasFittingBegin v) before → All (HasFittingBegin v) (before ++ x ∷ [])
-unfolding Spells var_part offset_part
-begins-fit v dims before from x rest s fit =
-    All-append (HasFittingBegin v) before (x ∷ []) fit (All-cons _ x [] (grind arith) (All-nil (HasFittingBegin v)))
-
-header-begins : (from : Bytes) (h : Header) (rest : Bytes) → Spells header_part from h rest → All (HasFittingBegin h.version) h.vars
-unfolding Spells header_by var_list list_part
-header-begins from h rest (v, m, s, (n, m2, ns, (dims, m3, d, (gatts, m4, g, (vars, m5, (k, m6, t, vs), (whole, end)))))) =
-    let fit = each-keeps (var_after strict v dims) (All (HasFittingBegin v)) (begins-fit v dims) k [] m6 vars m5 vs (All-nil (HasFittingBegin v)) in
-    rw whole fit
-
 -- a header that is spelled as it is written has fields as they are written
 pub header-canonical : (from : Bytes) (h : Header) (rest : Bytes) → SpellsHeader from h rest → from ≡ header_spelling h ++ rest
     → AreCanonical h (header_fields from)
 header-canonical from h rest s is =
     let kept = spelled-sound from h rest s in
-    let printable = header-printable h kept.sound kept.names (header-begins from h rest s) in
+    let printable = header-printable h kept.sound kept.names kept.begins in
     let are = canonical h [] [] header_part from h rest (λ f after. (refl, refl, tt)) (kept-header h from rest) printable is [] (refl, tt) in
     rw (strict-fields from h rest s) (simp append-nil at are)
 
