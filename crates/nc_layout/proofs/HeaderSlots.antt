@@ -1,5 +1,5 @@
 -- The slots of a header's variables: which have records, and how many bytes they take.
-use Rattle.nc_layout.proofs.Prelude.{common_steps, take_more, get_or-map, length-map, All-push, sum-map, Dim, Header, Var, record_vars, padded_size, padded_total, slab_size, slab_limit, Slot, padded_slab_len, record_slots, IsSoundSlot, IsSoundLayout, slot_of, layout_of, ◌≡◌, ℕ, ◌+◌, ◌<◌, ◌≤◌, Bool, List, [], ◌∷◌, ◌++◌, length, get_or, take, map, sum_by, refl, subst, arith, All, if◌then◌else◌}
+use Rattle.nc_layout.proofs.Prelude.{common_steps, take_more, get_or-map, length-map, All-push, fold-map, sum-map, Dim, Header, Var, record_vars, padded_size, padded_total, slab_size, slab_limit, Slot, padded_slab_len, record_slots, IsSoundSlot, IsSoundLayout, slot_of, layout_of, ◌≡◌, ℕ, ◌+◌, ◌<◌, ◌≤◌, ◌∙◌, Bool, List, [], ◌∷◌, ◌++◌, length, get_or, take, map, filter, sum_by, ap, refl, subst, sym, arith, All}
 
 -- ---- the slots of a loop
 
@@ -22,22 +22,22 @@ slots_more dims vars i slots x lt at small so_far =
 -- ---- their bytes
 
 -- the padded slabs of these variables
-pub slots-total : (dims : List Dim) (vars : List Var) → sum_by padded_slab_len (map (slot_of dims) vars) ≡ sum_by (padded_size dims) vars
-slots-total dims [] = refl
-slots-total dims (var ∷ vars) = grind (arith, common_steps, slots-total dims vars)
+pub slots-total : (dims : List Dim) (vars : List Var) → sum_by padded_slab_len (map (slot_of dims) vars) ≡ padded_total dims vars
+slots-total dims vars = fold-map (λ (n : ℕ) (slot : Slot). n + padded_slab_len slot) (slot_of dims) 0 vars ∙ sym (sum-map (padded_size dims) vars)
 
-pub kept-slot : (keep : Bool) (dims : List Dim) (var : Var) (vars : List Var) (slots : List Slot) → slots ≡ map (slot_of dims) vars
-    → (if keep then slot_of dims var ∷ slots else slots) ≡ map (slot_of dims) (if keep then var ∷ vars else vars)
-kept-slot v0 dims var vars slots e = grind arith
+-- the slots that pass a test are those of the variables whose slots pass it
+pub kept-slots : (p : Slot → Bool) (dims : List Dim) (vars : List Var)
+    → filter p (map (slot_of dims) vars) ≡ map (slot_of dims) (filter (λ (var : Var). p (slot_of dims var)) vars)
+kept-slots p dims [] = refl
+kept-slots p dims (var ∷ vars) = grind (arith, kept-slots p dims vars)
 
 pub record_slots-are : (dims : List Dim) (vars : List Var)
     → record_slots (map (slot_of dims) vars) ≡ map (slot_of dims) (record_vars dims vars)
-record_slots-are dims [] = refl
-record_slots-are dims (var ∷ vars) = grind (arith, kept-slot, record_slots-are dims vars)
+record_slots-are dims vars = kept-slots (λ (slot : Slot). slot.is_record) dims vars
 
 pub record_slots-total : (dims : List Dim) (vars : List Var)
     → sum_by padded_slab_len (record_slots (map (slot_of dims) vars)) ≡ padded_total dims (record_vars dims vars)
-record_slots-total dims vars = grind (arith, record_slots-are, slots-total, sum-map)
+record_slots-total dims vars = ap (sum_by padded_slab_len) (record_slots-are dims vars) ∙ slots-total dims (record_vars dims vars)
 
 -- ---- sound layouts
 

@@ -25,7 +25,7 @@ pub use Rattle.std.proofs.lemmas.Bool.Decides.{nat_tests}
 pub use Rattle.std.proofs.lemmas.Grind.{common_steps, fold-append}
 pub use Rattle.std.proofs.lemmas.List.{at_drop_more, get_or-map, length-map, length-take-le, map-append, take_more}
 pub use Rattle.std.proofs.lemmas.List.Elements.{All-head, All-map, All-push, All-tail, Contains-append_cases, Contains-append_left, Contains-get_or, Contains-push, Contains-push_cases, filter-append}
-pub use Rattle.std.proofs.lemmas.List.Folds.{list_any_at, list_any_none, position_or_len_push}
+pub use Rattle.std.proofs.lemmas.List.Folds.{fold-map, list_any_at, list_any_none, position_or_len_push}
 pub use Rattle.std.proofs.lemmas.List.Kept.{AllPairs-cons, AllPairs-filter}
 pub use Rattle.std.proofs.lemmas.List.Sorted.{Contains-permutation, IsNonDecreasingBy-from_sort_by_key, IsPermutation-append_comm, IsPermutation-append_left, IsPermutation-append_right, IsPermutation-keeps, IsPermutation-refl, IsPermutation-sym, IsPermutation-trans, answers_always}
 pub use Rattle.std.proofs.lemmas.List.Sums.{sum-map, sum_by-append, sum_by-le-sum_by}

@@ -1,5 +1,5 @@
 -- The records of a header are those of its slots: their size, their begin and their number.
-use Rattle.nccheck_laws.proofs.Prelude.{common_steps, option_map_or, sum-map, Dim, Header, Var, fixed_vars, least_begin, padded_total, record_size_of, record_vars, records_between, Slot, is_fixed, is_sole_narrow, record_count, record_size, records_begin, records_by_length, slot_of, layout_of, slots-total, record_slots-are, fixed_bytes, ◌≡◌, ℕ, ◌-◌, ◌/◌, min, List, [], ◌∷◌, filter, map, fold, refl, ap, arith}
+use Rattle.nccheck_laws.proofs.Prelude.{common_steps, option_map_or, Dim, Header, Var, fixed_vars, least_begin, padded_total, record_size_of, record_vars, records_between, Slot, is_fixed, is_sole_narrow, record_count, record_size, records_begin, records_by_length, slot_of, layout_of, padded_slab_len, slots-total, kept-slots, record_slots-are, fixed_bytes, ◌≡◌, ℕ, ◌-◌, ◌/◌, ◌∙◌, min, List, [], ◌∷◌, map, fold, sum_by, refl, ap, arith}
 use Rattle.std.specs.List.{reduce}
 use Rattle.nc_base.specs.Sizes.{record_count as header_record_count, record_size as header_record_size}
 use Rattle.nc_layout.proofs.SlotLists.{record_size_is}
@@ -7,14 +7,9 @@ use Rattle.nccheck_laws.proofs.LayoutBlocks.{min-from}
 
 -- ---- the bytes of the slots that aren't record slots
 
-fixed_slots-are : (dims : List Dim) (vars : List Var)
-    → filter is_fixed (map (slot_of dims) vars) ≡ map (slot_of dims) (fixed_vars dims vars)
-fixed_slots-are dims [] = refl
-fixed_slots-are dims (var ∷ vars) = grind (arith, fixed_slots-are dims vars)
-
 pub fixed_slots-total : (dims : List Dim) (vars : List Var)
     → fixed_bytes (map (slot_of dims) vars) ≡ padded_total dims (fixed_vars dims vars)
-fixed_slots-total dims vars = grind (arith, fixed_slots-are, slots-total, sum-map)
+fixed_slots-total dims vars = ap (sum_by padded_slab_len) (kept-slots is_fixed dims vars) ∙ slots-total dims (fixed_vars dims vars)
 
 -- ---- the record size
 

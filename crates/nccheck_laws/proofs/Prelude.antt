@@ -35,7 +35,7 @@ pub use Rattle.nc_fields.specs.Listings.{IsListing, IsOutcome, start_of}
 pub use Rattle.nc_findings.specs.declared.{listing.Listing.Listing, entry.Content.Content, entry.Entry.Entry, place.FieldKind.FieldKind, place.Owner.Owner, place.Place.Place, layout_fact.Block.Block, layout_fact.LayoutFact.LayoutFact, layout_fact.LayoutFinding.LayoutFinding, layout_fact.Slab.Slab, finding.Fact.Fact, finding.Finding.Finding, report.Report.Report, kind.Severity.Severity}
 pub use Rattle.nc_window.proofs.PartRuns.{shorter}
 pub use Rattle.nc_layout.proofs.BlockOrder.{contains-cases, contains-filter, contains-here, contains-none, contains-there, filter-contains}
-pub use Rattle.nc_layout.proofs.HeaderSlots.{record_slots-are, record_slots-total, slots-total}
+pub use Rattle.nc_layout.proofs.HeaderSlots.{kept-slots, record_slots-are, record_slots-total, slots-total}
 pub use Rattle.nc_layout.proofs.SpelledLayouts.{spelled-layout}
 pub use Rattle.nc_layout.proofs.SweptBlocks.{greatest_from-above, greatest_from-ge, greatest_from-least}
 pub use Rattle.nc_layout.specs.BlockRules.{greatest_end}
@@ -91,7 +91,7 @@ pub use Rattle.std.proofs.lemmas.List.Folds.{Any-from_list_any, list_any-append,
 pub use Rattle.std.proofs.lemmas.List.FromFn.{get_or-map-range_with_len, length-map-range_with_len}
 pub use Rattle.std.proofs.lemmas.List.Kept.{AllPairs-cons}
 pub use Rattle.std.proofs.lemmas.List.Sorted.{All-permutation, IsPermutation-cons, IsPermutation-middle, IsPermutation-refl, IsPermutation-sym, IsPermutation-trans, list_any-IsPermutation}
-pub use Rattle.std.proofs.lemmas.List.Sums.{fails_before_first, sum-map, sum_by-cons, sum_by-le-sum_by, take_while-cons}
+pub use Rattle.std.proofs.lemmas.List.Sums.{fails_before_first, sum_by-cons, sum_by-le-sum_by, take_while-cons}
 pub use Rattle.std.proofs.lemmas.Option.{get_or_from_slice_get, slice_get-get_or, slice_get-map, slice_get_within}
 pub use Rattle.std.specs.Int.{Width, byte_len, from_be_bytes, to_be_bytes, w32, w64}
 pub use Rattle.std.specs.List.{AllPairs, Contains, concat, list_all, list_any, position, range_with_len}
