@@ -139,20 +139,14 @@ fn unpadded(reached: Reached, block: Extent) -> Option<LayoutFinding>
 fn value_end(block: Option<Extent>) -> u128
     ensures { result ≡ end_of value_end block }
 {
-    match block {
-        Some(block) => block.end,
-        None => 0,
-    }
+    block.map_or(0, |block| block.end)
 }
 
 /// Returns the offset at which the padding of the block ends, or 0 if it is `None`.
 fn padding_end(block: Option<Extent>) -> u128
     ensures { result ≡ end_of padding_end block }
 {
-    match block {
-        Some(block) => block.padded_end,
-        None => 0,
-    }
+    block.map_or(0, |block| block.padded_end)
 }
 
 /// Returns the finding that unused bytes lie before the block, after the header and the padding of earlier blocks (`reached`), or `None`.

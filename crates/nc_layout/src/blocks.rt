@@ -77,10 +77,9 @@ fn slot_block(i: u64, slot: Slot) -> Extent
     }
 }
 
-/// Returns the block of all records, which begin at the offset `begin`. `slots` has all variables. Needs sound slots (within the limits)
-/// and their `records`, of at most 2^62 bytes each.
+/// Returns the block of all records, which begin at the offset `begin`. `slots` has all variables. Needs their `records`, of at most 2^62
+/// bytes each.
 fn records_block(slots: &[Slot], records: FileRecords, begin: u64) -> Extent
-    requires sound { All IsSoundSlot slots.now }
     requires narrow { records.sole_narrow ≡ is_sole_narrow (record_slots slots.now) }
     requires size { records.size ≡ record_size slots.now }
     requires small { records.size ≤ 2 ^ 62 }
@@ -110,14 +109,9 @@ fn record_slot_at(slots: &[Slot], begin: u64) -> u64
 fn position_of_record_slot(slots: &[Slot], begin: u64) -> Option<usize>
     ensures { result ≡ position (λ slot. slot.is_record && (slot.begin == begin)) slots.now }
 {
-    slots.iter().position(|slot| is_record_slot_at(slot, begin))
-}
-
-/// Returns true if the slot (begin, slab and kind of a variable) is that of a record variable that begins at the file offset `begin`.
-fn is_record_slot_at(slot: &Slot, begin: u64) -> bool
-    ensures { result ≡ (slot.now.is_record && (slot.now.begin == begin)) }
-{
-    slot.is_record && slot.begin == begin
+    slots
+        .iter()
+        .position(|slot| slot.is_record && slot.begin == begin)
 }
 
 /// The offsets at which the values of a block and their padding end.
@@ -128,9 +122,8 @@ struct Ends {
 }
 
 /// Returns the offsets at which the last record ends, without and with padding (a sole narrow slab has none). Both are `begin`, where the
-/// records begin, if there are no records. Needs sound slots (within the limits) and their `records`, of at most 2^62 bytes each.
+/// records begin, if there are no records. Needs the `records` of these slots, of at most 2^62 bytes each.
 fn records_ends(slots: &[Slot], records: FileRecords, begin: u64) -> Ends
-    requires sound { All IsSoundSlot slots.now }
     requires narrow { records.sole_narrow ≡ is_sole_narrow (record_slots slots.now) }
     requires size { records.size ≡ record_size slots.now }
     requires small { records.size ≤ 2 ^ 62 }
@@ -150,10 +143,9 @@ fn records_ends(slots: &[Slot], records: FileRecords, begin: u64) -> Ends
 }
 
 /// Returns the offsets at which the values of the last record and their padding (none with `sole_narrow`) end, if the records before it
-/// have `before` bytes. Both are 0 without a record variable. Needs sound slots (within the limits), and `before` below 2^126.
+/// have `before` bytes. Both are 0 without a record variable. Needs `before` below 2^126.
 fn last_record_ends(slots: &[Slot], before: u128, sole_narrow: bool) -> Ends
-    requires sound { All IsSoundSlot slots.now }
-    requires small { before < 2 ^ 126 }
+    requires { before < 2 ^ 126 }
     ensures values { result.values
         ≡ fold max 0 (map (λ slot. slot.begin + before + slot.slab) (record_slots slots.now)) }
     ensures padding { result.padding

@@ -12,11 +12,7 @@ use std::alloc::AllocError;
 pub(crate) fn finding_if(holds: bool, place: LayoutPlace, fact: LayoutFact) -> Option<LayoutFinding>
     ensures { result ≡ finding_if holds place fact }
 {
-    if holds {
-        Some(LayoutFinding { place, fact })
-    } else {
-        None
-    }
+    holds.then_some(LayoutFinding { place, fact })
 }
 
 /// Appends the finding, or nothing if it is `None`. Errs only if an allocation fails.

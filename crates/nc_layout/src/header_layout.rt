@@ -31,20 +31,10 @@ pub fn sound_layout(
                 header_end,
                 file_len,
             };
-            Ok(if_sound(layout))
+            let is_sound = layout.is_sound();
+            Ok(is_sound.then_some(layout))
         }
         None => Ok(None),
-    }
-}
-
-/// Returns the layout if it is sound ([`FileLayout::is_sound`]), or `None`.
-fn if_sound(layout: FileLayout) -> Option<FileLayout>
-    ensures { SomeIff result (IsSoundLayout layout) layout }
-{
-    if layout.is_sound() {
-        Some(layout)
-    } else {
-        None
     }
 }
 
