@@ -11,14 +11,14 @@ pub use Rattle.nc_base.specs.GeneratedFile.{begin_after, block, fits, fixed_vars
 unfoldable pub use Rattle.nc_base.specs.GeneratedFile.{data_of, file_of, fill_bytes, padded_slab, with_begins}
 pub use Rattle.nc_base.specs.Grammar.{SpellsHeader, StopsAt, header_spelling, dimension_tag, attribute_tag, variable_tag, is_dimid, is_within_limits, count_part, known_type, dim_after, att_after, dimid_after, var_after, numrecs_in, header_part, strict, first, version_in, type_in, record_bytes}
 pub use Rattle.nc_base.specs.Headers.{AreArrays, AreDimids, IsDimid, HasValidNames, HasWholeValues, IsArray, IsGood, IsSound, IsSoundAtt, IsSoundDim, IsSoundNumRecs, IsSoundVar, bare, bare_var}
-pub use Rattle.nc_base.specs.Sizes.{has_record_dim, value_count, dim_len, is_narrow, is_record_var, is_record_shape, least_begin, padded_size, padded_total, product, record_count, record_limit, record_size, record_size_of, record_vars, slab_count, slab_lens, slab_limit, slab_len, slab_size}
+pub use Rattle.nc_base.specs.Sizes.{has_record_dim, value_count, dim_len, is_narrow, is_record_var, is_record_shape, padded_size, padded_total, product, record_count, record_limit, record_size, record_size_of, record_vars, records_begin, slab_count, slab_lens, slab_limit, slab_len, slab_size}
 pub use Rattle.nc_types.specs.Names.{IsName}
 pub use Rattle.nc_base.specs.Numbers.{bytes_of_number, number_of, numbers_from}
 unfoldable pub use Rattle.nc_base.specs.Numbers.{numbers}
 pub use Rattle.nc_base.specs.Places.{bytes_at, distance, ends_after, first_missing, slab_strides, stored_bytes, stored_values, vectors_below}
 pub use Rattle.nc_base.specs.code.Extents.{extent_end, end_after}
 unfoldable pub use Rattle.nc_base.specs.Places.{value_offsets}
-pub use Rattle.nc_base.specs.code.SizeParts.{checked_record_size, extent_sum, least_record_begin, has_small_slab, is_fixed_dim, min_begin, slab_at}
+pub use Rattle.nc_base.specs.code.SizeParts.{checked_record_size, extent_sum, has_small_slab, is_fixed_dim, slab_at}
 pub use Rattle.nc_types.specs.Types.{code_of, size_of}
 pub use Rattle.nc_base.specs.HeadText.{without_trailing_nuls}
 pub use Rattle.nc_base.specs.ValueText.{Look, begins_row, char_lead, column, is_char, number_text, printed_bytes, row_len, row_text}

@@ -1,5 +1,5 @@
 -- The sizes of slabs and of records.
-use Rattle.nc_base.proofs.Prelude.{◌≡◌, ℕ, zero, ◌+◌, ◌*◌, ◌<◌, ◌≤◌, min, Bool, true, false, ◌&&◌, cond, List, [], ◌∷◌, ◌++◌, length, get_or, drop, take, map, refl, sym, ◌∙◌, ap, arith, drop-cons, Some, None, filter, if◌then◌else◌, list_all, mul-le-mul_left, le-leb, append-nil, filter_more, filter-append, list_all-append, sum-map, sum_by_push, padding_len, product, is_record_var, is_narrow, slab_size, padded_size, padded_total, record_size_of, slab_limit, least_begin, has_small_slab, checked_record_size, least_record_begin, min_begin, Dim, Var, Header}
+use Rattle.nc_base.proofs.Prelude.{◌≡◌, ℕ, zero, ◌+◌, ◌*◌, ◌<◌, ◌≤◌, min, Bool, true, false, ◌&&◌, cond, List, [], ◌∷◌, ◌++◌, length, get_or, drop, take, map, refl, sym, ◌∙◌, ap, arith, drop-cons, None, filter, if◌then◌else◌, list_all, mul-le-mul_left, le-leb, append-nil, filter_more, filter-append, list_all-append, sum-map, sum_by_push, padding_len, product, is_record_var, is_narrow, slab_size, padded_size, padded_total, record_size_of, slab_limit, has_small_slab, checked_record_size, Dim, Var, Header}
 use Rattle.std.proofs.Math.ListN.{drop_of_length-le, take-append-drop}
 
 -- a number that is cut off at c may be cut off before it is multiplied
@@ -57,7 +57,7 @@ record_size_of-append dims [] x = record_size_of_first (is_narrow x) (slab_size 
 record_size_of-append dims (y ∷ []) x = padded_total-append dims (y ∷ []) x
 record_size_of-append dims (y ∷ z ∷ ys) x = padded_total-append dims (y ∷ z ∷ ys) x
 
-pub seen_skipped_at : (dims : List Dim) (vars : List Var) (i : ℕ) (x : Var) → i < length vars → x ≡ get_or vars i x
+seen_skipped_at : (dims : List Dim) (vars : List Var) (i : ℕ) (x : Var) → i < length vars → x ≡ get_or vars i x
     → is_record_var dims x ≡ false → seen dims vars (i + 1) ≡ seen dims vars i
 seen_skipped_at dims vars i x lt at fixed =
     filter_more (is_record_var dims) vars i x lt ∙ ap (λ b. seen dims vars i ++ cond b (get_or vars i x ∷ []) []) (ap (is_record_var dims) (sym at) ∙ fixed) ∙ append-nil _
@@ -120,12 +120,3 @@ sums_skipped_at dims vars i size padded is_first x lt at fixed sums = grind (ari
 pub checked-none_at : (h : Header) (i : ℕ) (x : Var) → i < length h.vars → x ≡ get_or h.vars i x → is_record_var h.dims x ≡ true
     → (slab_size h.dims x ≤ slab_limit → ⊥) → checked_record_size h ≡ None
 checked-none_at h i x lt at growing large = grind (arith, fails_along)
-
-least_begin-push : (var : Var) (vars : List Var) (x : Var) → least_begin var (vars ++ x ∷ []) ≡ min (least_begin var vars) x.begin_at
-least_begin-push var [] x = refl
-least_begin-push var (next ∷ vars) x = omega (arith, least_begin-push next vars x)
-
--- one more record variable
-pub least_record_begin_more : (dims : List Dim) (vars : List Var) (i : ℕ) (x : Var) → i < length vars → x ≡ get_or vars i x
-    → is_record_var dims x ≡ true → least_record_begin (seen dims vars (i + 1)) ≡ Some (min_begin (least_record_begin (seen dims vars i)) x.begin_at)
-least_record_begin_more dims vars i x lt at growing = grind (arith, seen_more dims vars i x lt, least_begin-push)

@@ -1,5 +1,5 @@
 -- What a sound header keeps.
-use Rattle.nc_base.proofs.Prelude.{◌≡◌, ℕ, ◌*◌, ◌/◌, ◌%◌, ◌<◌, ◌≤◌, Bool, true, ◌&&◌, ◌||◌, List, [], ◌∷◌, ◌++◌, length, get_or, drop, map, refl, sym, ◌∙◌, ap, subst, arith, Option, Some, filter, nat_lt, ◌==◌, not, if◌then◌else◌, IsTrue, All, IsSome, SomeIff, is_some, IfSome, ◌-◌, list_all, count_by, mul-le-mul_left, mod-eq-sub-div-mul, div-mul-le_self, le-leb, ltb-true, lt-ltb, length-map, div-mul-add, nat_tests, All-filter, All-head, All-tail, All-weaker, All-get_or, All-map, length-filter, size_of, dim_len, product, is_record_var, slab_lens, slab_size, record_vars, record_size, slab_limit, record_limit, checked_record_size, least_record_begin, slab_at, is_fixed_dim, has_values, IsSound, IsSoundVar, HasWholeValues, AreDimids, NcType, Version, count_limit, Att, Dim, Var, Header, Streaming, record_count, and_right}
+use Rattle.nc_base.proofs.Prelude.{◌≡◌, ℕ, ◌*◌, ◌/◌, ◌%◌, ◌<◌, ◌≤◌, Bool, true, ◌&&◌, ◌||◌, List, [], ◌∷◌, ◌++◌, length, get_or, drop, map, refl, sym, ◌∙◌, ap, subst, arith, Option, Some, filter, nat_lt, ◌==◌, not, if◌then◌else◌, IsTrue, All, IsSome, SomeIff, is_some, IfSome, ◌-◌, list_all, count_by, mul-le-mul_left, mod-eq-sub-div-mul, div-mul-le_self, le-leb, ltb-true, lt-ltb, length-map, div-mul-add, nat_tests, All-filter, All-head, All-tail, All-weaker, All-get_or, All-map, length-filter, size_of, dim_len, product, is_record_var, slab_lens, slab_size, record_vars, record_size, slab_limit, record_limit, checked_record_size, records_begin, slab_at, is_fixed_dim, has_values, IsSound, IsSoundVar, HasWholeValues, AreDimids, NcType, Version, count_limit, Att, Dim, Var, Header, Streaming, record_count, and_right}
 
 passes : (test : Var → Bool) (xs : List Var) → All (λ x. test x ≡ true) xs → list_all test xs ≡ true
 passes test [] h = refl
@@ -80,7 +80,7 @@ pub one_record_dim : (dims : List Dim) → length (filter (λ (dim : Dim). dim.l
 one_record_dim dims = length-filter (λ (dim : Dim). dim.len == 0) dims
 
 -- where a sound header doesn't tell its number of records, it is that of the whole records
-pub streamed : (h : Header) (len begin quotient : ℕ) (size : Option ℕ) → h.numrecs ≡ Streaming → least_record_begin (record_vars h.dims h.vars) ≡ Some begin
+pub streamed : (h : Header) (len begin quotient : ℕ) (size : Option ℕ) → h.numrecs ≡ Streaming → records_begin (record_vars h.dims h.vars) ≡ Some begin
     → size ≡ checked_record_size h → IfSome size (λ s. quotient ≡ (len - begin) / s) → IsSound h → quotient ≡ record_count h len
 streamed h len begin quotient size streaming found is_size divided sound = grind (arith, checked-sound)
 

@@ -1,7 +1,8 @@
 -- Definition. The sizes of a variable's slab and of a record, and the number of records. A slab is what a record variable has in
 -- one record. Of any other variable it is all that the variable has.
-use Rattle.std.specs.Prelude.{ℕ, ◌+◌, ◌-◌, ◌*◌, ◌/◌, ◌^◌, min, Bool, false, nat_lt, ◌==◌, ◌&&◌, if◌then◌else◌, List, [], ◌∷◌, length, map, filter, drop, slice_index, sum}
-use Rattle.std.specs.List.{list_any}
+use Rattle.std.specs.Prelude.{ℕ, ◌+◌, ◌-◌, ◌*◌, ◌/◌, ◌^◌, min, Bool, false, nat_lt, ◌==◌, ◌&&◌, if◌then◌else◌, List, [], ◌∷◌, length, map, filter, drop, slice_index, sum, Option}
+use Rattle.std.specs.List.{list_any, reduce}
+use Rattle.std.specs.Option.{option_map_or}
 use Rattle.nc_base.specs.declared.{header.Dim.Dim, header.Var.Var, header.Header.Header, header.NumRecs.NumRecs}
 use Rattle.nc_types.specs.declared.{nc_type.NcType.NcType}
 use Rattle.nc_base.specs.declared.header.NumRecs.TheVariants.{Known, Streaming}
@@ -84,20 +85,20 @@ array_limit = 2 ^ 48
 abbrev pub record_limit : ℕ
 record_limit = 2 ^ 62
 
-abbrev pub least_begin : Var → List Var → ℕ
-least_begin var [] = var.begin_at
-least_begin var (next ∷ others) = min var.begin_at (least_begin next others)
+-- where the records begin: the least begin of these record variables, if there are any
+abbrev pub records_begin : List Var → Option ℕ
+records_begin vars = reduce min (map (λ (var : Var). var.begin_at) vars)
 
--- how many whole records of this size lie between the least begin of these variables and the end of the file (the size isn't 0: only the
--- record dimension has length 0)
-abbrev pub records_between : ℕ → List Var → ℕ → ℕ
-records_between size [] file_len = 0
-records_between size (var ∷ vars) file_len = (file_len - least_begin var vars) / size
+-- how many whole records of this size lie between their begin, if there is one, and the end of the file (the size isn't 0: only the record
+-- dimension has length 0)
+abbrev pub records_between : ℕ → Option ℕ → ℕ → ℕ
+records_between size begin file_len = option_map_or (λ offset. (file_len - offset) / size) begin 0
+
+-- the number of records: the one that the header has, or this one
+abbrev pub known_or : NumRecs → ℕ → ℕ
+known_or (Known n) by_length = n
+known_or Streaming by_length = by_length
 
 -- the number of records of a file of this length
 abbrev pub record_count : Header → ℕ → ℕ
-record_count h file_len = of_numrecs h.numrecs
-  where
-    of_numrecs : NumRecs → ℕ
-    of_numrecs (Known n) = n
-    of_numrecs Streaming = records_between (record_size h) (record_vars h.dims h.vars) file_len
+record_count h file_len = known_or h.numrecs (records_between (record_size h) (records_begin (record_vars h.dims h.vars)) file_len)

@@ -3,8 +3,8 @@
 ghost use Rattle.std.specs.Prelude.{◌≡◌, ◌+◌, ◌*◌, ◌/◌, ◌<◌, ◌≤◌, ◌^◌, ◌&&◌, IfSome, if◌then◌else◌, length, map, min, slice_get, SomeIff};
 ghost use Rattle.nc_types.specs.Types.{size_of};
 ghost use Rattle.nc_types.specs.Bytes.{padding_len};
-ghost use Rattle.nc_base.specs.Sizes.{slab_len, dim_len, is_record_dim, is_record_shape, is_record_var, is_narrow, product, slab_size, padded_size, slab_limit, record_size, record_limit, record_vars, record_count, value_count};
-ghost use Rattle.nc_base.specs.code.SizeParts.{slab_at, checked_record_size, extent_sum, least_record_begin, min_begin, CountsValues, IsCappedSlab};
+ghost use Rattle.nc_base.specs.Sizes.{slab_len, dim_len, is_record_dim, is_record_shape, is_record_var, is_narrow, product, slab_size, padded_size, slab_limit, record_size, record_limit, record_vars, records_begin, record_count, value_count};
+ghost use Rattle.nc_base.specs.code.SizeParts.{slab_at, checked_record_size, extent_sum, CountsValues, IsCappedSlab};
 ghost use Rattle.nc_base.specs.GeneratedFile.{known_records};
 ghost use Rattle.nc_base.specs.code.Extents.{extent_end};
 ghost use Rattle.nc_base.specs.Headers.{IsSound};
@@ -78,10 +78,7 @@ pub fn records(header: &Header, len: u64) -> u64
 {
     match header.numrecs {
         NumRecs::Known(n) => n,
-        NumRecs::Streaming => match least_record_begin(
-            header.dims.as_slice(),
-            header.vars.as_slice(),
-        ) {
+        NumRecs::Streaming => match records_begin(header.dims.as_slice(), header.vars.as_slice()) {
             Some(begin) => whole_records(len.saturating_sub(begin), rec_size(header)),
             None => 0,
         },
@@ -192,28 +189,14 @@ fn sound_slab_size(header: &Header, v: usize) -> u64
     slab_bytes(header, v).unwrap()
 }
 
-/// Returns the least begin of the record variables, or `None` if there are none.
-#[tactic(auto, using(crate::proofs::SizeLaws::least_record_begin_more, crate::proofs::SizeLaws::seen_skipped_at))]
-fn least_record_begin(dims: &[Dim], vars: &[Var]) -> Option<u64>
-    ensures { result ≡ least_record_begin (record_vars dims.now vars.now) }
+/// Returns the offset at which the records begin: the least begin of the record variables, or `None` if there are none.
+fn records_begin(dims: &[Dim], vars: &[Var]) -> Option<u64>
+    ensures { result ≡ records_begin (record_vars dims.now vars.now) }
 {
-    let mut least = None;
-    for var in vars {
-        if is_record_var(dims, var) {
-            least = Some(min_begin(least, var.begin_at));
-        }
-    }
-    least
-}
-
-/// Returns the lesser of the offsets `least` and `begin`, or `begin` if `least` is `None`, as it is before the first record variable.
-fn min_begin(least: Option<u64>, begin: u64) -> u64
-    ensures { result ≡ min_begin least begin }
-{
-    match least {
-        Some(offset) => offset.min(begin),
-        None => begin,
-    }
+    vars.iter()
+        .filter(|var| is_record_var(dims, var))
+        .map(|var| var.begin_at)
+        .min()
 }
 
 /// Returns the record size in bytes of the record variables up to `var`, the last one so far. `slab` is the number of bytes of the slab of

@@ -1,11 +1,9 @@
 -- Definition. The slabs of a file's variables and the records that they make (`vsize`, `recsize` and `numrecs` of the NetCDF Classic Format
 -- Specification).
-use Rattle.std.specs.Prelude.{ℕ, ◌+◌, ◌-◌, ◌/◌, min, Bool, false, not, if◌then◌else◌, List, [], ◌∷◌, filter, map, sum_by, Option}
+use Rattle.std.specs.Prelude.{ℕ, ◌+◌, min, Bool, false, not, if◌then◌else◌, List, [], ◌∷◌, filter, map, sum_by, Option}
 use Rattle.std.specs.List.{reduce}
-use Rattle.std.specs.Option.{option_map_or}
 use Rattle.nc_types.specs.Bytes.{padding_len}
-use Rattle.nc_base.specs.declared.header.NumRecs.{NumRecs}
-use Rattle.nc_base.specs.declared.header.NumRecs.TheVariants.{Known, Streaming}
+use Rattle.nc_base.specs.Sizes.{records_between, known_or}
 use Rattle.nc_layout.specs.declared.{slot.Slot.Slot, slot.FileLayout.FileLayout}
 
 -- the bytes of a slab with the padding up to the next multiple of four
@@ -38,12 +36,8 @@ records_begin slots = reduce min (map (λ (slot : Slot). slot.begin) (record_slo
 
 -- how many whole records lie between the begin of the records and the end of the file
 unfoldable pub records_by_length : FileLayout → ℕ
-records_by_length layout = option_map_or (λ begin. (layout.file_len - begin) / record_size layout.slots) (records_begin layout.slots) 0
+records_by_length layout = records_between (record_size layout.slots) (records_begin layout.slots) layout.file_len
 
 -- the number of records
 unfoldable pub record_count : FileLayout → ℕ
-record_count layout = of_numrecs layout.numrecs
-  where
-    of_numrecs : NumRecs → ℕ
-    of_numrecs (Known n) = n
-    of_numrecs Streaming = records_by_length layout
+record_count layout = known_or layout.numrecs (records_by_length layout)

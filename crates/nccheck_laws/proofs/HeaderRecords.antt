@@ -1,9 +1,9 @@
 -- The records of a header are those of its slots: their size, their begin and their number.
-use Rattle.nccheck_laws.proofs.Prelude.{common_steps, option_map_or, Dim, Header, Var, fixed_vars, least_begin, padded_total, record_size_of, record_vars, records_between, Slot, is_fixed, is_sole_narrow, record_count, record_size, records_begin, records_by_length, slot_of, layout_of, padded_slab_len, slots-total, kept-slots, record_slots-are, fixed_bytes, ◌≡◌, ℕ, ◌-◌, ◌/◌, ◌∙◌, min, List, [], ◌∷◌, map, fold, sum_by, refl, ap, arith}
+use Rattle.nccheck_laws.proofs.Prelude.{common_steps, Dim, Header, Var, fixed_vars, padded_total, record_size_of, record_vars, Slot, is_fixed, is_sole_narrow, record_count, record_size, records_begin, records_by_length, slot_of, layout_of, padded_slab_len, slots-total, kept-slots, record_slots-are, fixed_bytes, ◌≡◌, ℕ, ◌∙◌, min, List, Option, map, sum_by, ap, ap₂, arith}
 use Rattle.std.specs.List.{reduce}
-use Rattle.nc_base.specs.Sizes.{record_count as header_record_count, record_size as header_record_size}
+use Rattle.nc_base.specs.Sizes.{known_or, records_between, record_count as header_record_count, records_begin as header_records_begin}
+use Rattle.nc_base.proofs.WholeValues.{map-map}
 use Rattle.nc_layout.proofs.SlotLists.{record_size_is}
-use Rattle.nccheck_laws.proofs.LayoutBlocks.{min-from}
 
 -- ---- the bytes of the slots that aren't record slots
 
@@ -18,29 +18,16 @@ size-is dims vars =
     let narrow = is_sole_narrow (map (slot_of dims) (record_vars dims vars)) in
     grind (arith, record_size_is (map (slot_of dims) vars) narrow, record_slots-are dims vars, common_steps)
 
--- ---- the begin of the records
-
-abbrev begins : List Dim → List Var → List ℕ
-begins dims vars = map (λ (slot : Slot). slot.begin) (map (slot_of dims) vars)
-
-least-is : (dims : List Dim) (var : Var) (vars : List Var) → fold min var.begin_at (begins dims vars) ≡ least_begin var vars
-least-is dims var [] = refl
-least-is dims var (next ∷ vars) = grind (arith, min-from, least-is dims next vars)
-
 -- ---- the number of records
 
-records-between : (dims : List Dim) (vars : List Var) (size file_len : ℕ)
-    → option_map_or (λ (begin : ℕ). (file_len - begin) / size) (reduce min (begins dims vars)) 0 ≡ records_between size vars file_len
-records-between dims [] size file_len = refl
-records-between dims (var ∷ vars) size file_len = ap (λ (begin : ℕ). (file_len - begin) / size) (least-is dims var vars)
-
-by-length : (h : Header) (header_end file_len : ℕ)
-    → records_by_length (layout_of h header_end file_len) ≡ records_between (header_record_size h) (record_vars h.dims h.vars) file_len
-unfolding records_by_length records_begin
-by-length h header_end file_len =
-    let between = records-between h.dims (record_vars h.dims h.vars) (record_size (map (slot_of h.dims) h.vars)) file_len in
-    grind (arith, size-is h.dims h.vars, record_slots-are h.dims h.vars)
+begin-is : (dims : List Dim) (vars : List Var) → records_begin (map (slot_of dims) vars) ≡ header_records_begin (record_vars dims vars)
+unfolding records_begin
+begin-is dims vars =
+    let begin = λ (slot : Slot). slot.begin in
+    ap (λ (slots : List Slot). reduce min (map begin slots)) (record_slots-are dims vars)
+    ∙ ap (reduce min) (map-map begin (slot_of dims) (record_vars dims vars))
 
 pub count-is : (h : Header) (header_end file_len : ℕ) → record_count (layout_of h header_end file_len) ≡ header_record_count h file_len
-unfolding record_count
-count-is h header_end file_len = grind (arith, by-length)
+unfolding record_count records_by_length
+count-is h header_end file_len =
+    ap₂ (λ (size : ℕ) (begin : Option ℕ). known_or h.numrecs (records_between size begin file_len)) (size-is h.dims h.vars) (begin-is h.dims h.vars)

@@ -16,7 +16,7 @@ pub use Rattle.nc_base.specs.Parts.{Atts, Begin, Count, Dims, Gatts, Item, Lengt
 unfoldable pub use Rattle.nc_base.specs.Parts.{Spells, print}
 pub use Rattle.nc_base.specs.Places.{distance, ends_after, first_missing, slab_strides, stored_bytes, vectors_below}
 unfoldable pub use Rattle.nc_base.specs.Places.{value_offsets}
-pub use Rattle.nc_base.specs.Sizes.{has_record_dim, is_record_var, least_begin, padded_size, padded_total, product, record_size_of, record_vars, records_between, slab_lens, slab_size}
+pub use Rattle.nc_base.specs.Sizes.{has_record_dim, is_record_var, padded_size, padded_total, product, record_size_of, record_vars, slab_lens, slab_size}
 pub use Rattle.nc_types.specs.Types.{code_of, size_of}
 pub use Rattle.nc_types.specs.Versions.{count_limit, count_width, offset_width, vsize_of}
 pub use Rattle.nc_base.specs.code.PartRuns.{IsPrintable, Outcome, StopsWith, and_then, with_rest}
@@ -78,7 +78,7 @@ pub use Rattle.nccheck_laws.specs.HeaderLaws.{CanonicalBeginsAreGenerated, Gener
 pub use Rattle.nccheck_laws.specs.LayoutLaws.{AreApart, CanonicalBeginsAreQuiet, CanonicalLengthIsQuiet, FindsNone, HasCanonicalBegins, MissingValuesHaveSlab, QuietBeginsAreCanonical, QuietLengthIsCanonical, QuietSlabsAreApart, canonical_begin, canonical_len, fixed_bytes, is_of_begin, is_of_end, is_of_shared_bytes}
 pub use Rattle.nccheck_laws.specs.ReportLaws.{CanonicalSpellingsAreQuiet, FindsWholeFile, GeneratedFilesAreFoundWhole, GeneratedFilesHaveQuietLayouts, GeneratedFilesHaveQuietSpellings, HasQuietLayout, IsAsGenerated, QuietFilesAreCanonical, QuietHeadersAreCanonical, QuietSpellingsAreCanonical, ShowsAllValues, WholeFilesHoldDatasets, WholeReportsAreDumped, has_any, is_of_layout, is_of_spelling}
 pub use Rattle.nccheck_laws.specs.Written.{AreWritten, CanonicalFieldsAreWritten, IsWritten, IsWrittenTag, IsWrittenVsize, WrittenFieldsAreCanonical, bytes_of, number_of}
-pub use Rattle.std.proofs.Common.{All, Bool, Err, IfSome, List, None, Ok, Option, Result, Some, [], ap, append-nil, append_assoc, ap₂, arith, codes, cond, drop, eqb-true, false, filter, flat_map, fold, get_or, if◌then◌else◌, inl, inr, le_refl, le_trans, leb, length, length-append, length-take-le, map, max, min, nat_lt, not, refl, replicate, slice_get, subst, suc, sum_by, sym, take, take_while, true, unwrap_or, zero, ℕ, ◌&&◌, ◌*◌, ◌++◌, ◌+◌, ◌-◌, ◌/◌, ◌<◌, ◌==◌, ◌||◌, ◌↔◌, ◌∙◌, ◌∷◌, ◌≡◌, ◌≤◌, ◌⊎◌}
+pub use Rattle.std.proofs.Common.{All, Bool, Err, IfSome, List, None, Ok, Option, Result, Some, [], ap, append-nil, append_assoc, ap₂, arith, codes, cond, drop, eqb-true, false, filter, flat_map, fold, get_or, if◌then◌else◌, inl, inr, le_refl, le_trans, leb, length, length-append, length-take-le, map, max, min, nat_lt, not, refl, replicate, slice_get, subst, suc, sum_by, sym, take, take_while, true, unwrap_or, zero, ℕ, ◌&&◌, ◌*◌, ◌++◌, ◌+◌, ◌-◌, ◌<◌, ◌==◌, ◌||◌, ◌↔◌, ◌∙◌, ◌∷◌, ◌≡◌, ◌≤◌, ◌⊎◌}
 pub use Rattle.std.proofs.Math.Nat.{mul-le-mul_right}
 pub use Rattle.std.proofs.Math.Seq.{drop-append_seam, take-append_seam, take-length}
 pub use Rattle.std.proofs.lemmas.Bool.{cases_lt, false≢true, le-ltb, leb-false, leb-true, lt-ltb, ltb-false}

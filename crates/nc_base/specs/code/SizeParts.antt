@@ -1,9 +1,9 @@
 -- For contracts. What the parts of the functions on sizes give: words of their contracts, and none of the format's.
-use Rattle.std.specs.Prelude.{◌≡◌, ◌≤◌, ℕ, ◌+◌, ◌-◌, ◌*◌, min, Bool, nat_lt, nat_le, ◌==◌, ◌&&◌, not, if◌then◌else◌, List, [], ◌∷◌, length, map, slice_get, slice_index, IfSome, Option, Some, None, SomeIff}
+use Rattle.std.specs.Prelude.{◌≡◌, ◌≤◌, ℕ, ◌+◌, ◌-◌, ◌*◌, Bool, nat_lt, nat_le, ◌==◌, ◌&&◌, not, if◌then◌else◌, List, length, map, slice_get, slice_index, IfSome, Option, Some, None, SomeIff}
 use Rattle.std.specs.List.{list_all}
 use Rattle.nc_base.specs.declared.{header.Dim.Dim, header.Var.Var, header.Header.Header}
 use Rattle.nc_types.specs.declared.{nc_type.NcType.NcType}
-use Rattle.nc_base.specs.Sizes.{value_count, is_record_dim, is_record_var, slab_size, record_vars, record_size, slab_limit, record_limit, least_begin, slab_len}
+use Rattle.nc_base.specs.Sizes.{value_count, is_record_dim, is_record_var, slab_size, record_vars, record_size, slab_limit, record_limit, slab_len}
 
 -- the id is that of a dimension other than the record dimension
 abbrev pub is_fixed_dim : List Dim → ℕ → Bool
@@ -22,16 +22,6 @@ abbrev pub checked_record_size : Header → Option ℕ
 checked_record_size h =
     if list_all (has_small_slab h.dims) (record_vars h.dims h.vars) && nat_le (record_size h) record_limit
     then Some (record_size h) else None
-
--- the least begin of these variables, where there are any
-abbrev pub least_record_begin : List Var → Option ℕ
-least_record_begin [] = None
-least_record_begin (var ∷ vars) = Some (least_begin var vars)
-
--- the lesser of two offsets, if there are two
-abbrev pub min_begin : Option ℕ → ℕ → ℕ
-min_begin None begin = begin
-min_begin (Some offset) begin = min offset begin
 
 -- the first offset after the last value that a variable has over n records: its begin, where it has none
 abbrev pub extent_sum : Header → ℕ → Var → ℕ
