@@ -49,8 +49,8 @@ pub use nc_types::{
 pub use number::number_of;
 pub use path::stem;
 pub use sizes::{
-    RECORD_LIMIT, RecordLayout, dim_len, extent_end, is_record_dim, is_record_shape, is_record_var,
-    padding_len, rec_size, record_layout, records, slab_bytes, slab_len, sound_record_size,
-    value_count,
+    RECORD_LIMIT, RecordLayout, SLAB_LIMIT, dim_len, extent_end, is_narrow, is_record_dim,
+    is_record_shape, is_record_var, padding_len, rec_size, record_layout, records, slab_bytes,
+    slab_len, sound_record_size, value_count,
 };
 pub use weights::weight;

@@ -13,7 +13,7 @@ use crate::header::{Dim, Header, NumRecs, Var};
 use nc_types::NcType;
 
 /// The greatest slab in bytes: 2^48.
-const SLAB_LIMIT: u64 = 1 << 48;
+pub const SLAB_LIMIT: u64 = 1 << 48;
 
 /// The greatest record in bytes: 2^62.
 pub const RECORD_LIMIT: u128 = 1 << 62;
@@ -228,7 +228,7 @@ pub fn padding_len(n: u128) -> u64
 }
 
 /// Returns true if the variable is narrow: each of its values takes less than four bytes.
-fn is_narrow(var: &Var) -> bool
+pub fn is_narrow(var: &Var) -> bool
     ensures { result ≡ is_narrow var.now }
 {
     var.ty.size() < 4

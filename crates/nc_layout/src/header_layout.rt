@@ -1,12 +1,12 @@
 //! The layout of a file whose header has been read.
 
 ghost use Rattle.std.specs.Prelude.{◌≡◌, ◌≤◌, All, IfOk, SomeIff, map};
-ghost use Rattle.nc_base.specs.Sizes.{slab_size, slab_limit, is_narrow};
+ghost use Rattle.nc_base.specs.Sizes.{slab_size, slab_limit};
 ghost use Rattle.nc_layout.specs.Findings.{IsSoundLayout};
 ghost use Rattle.nc_layout.specs.HeaderLayout.{slot_of, layout_of};
 
 use crate::slot::{FileLayout, Slot};
-use nc_base::{Dim, Header, Sequence, Var, is_record_var, slab_len};
+use nc_base::{Dim, Header, Sequence, Var, is_narrow, is_record_var, slab_len};
 use std::alloc::{AllocError, Global};
 
 /// Returns the layout of a file of `file_len` bytes with this header, which ends at the offset `header_end`. Returns `None` if the layout
@@ -65,11 +65,4 @@ fn slot_of(dims: &[Dim], var: &Var) -> Option<Slot>
         is_record: is_record_var(dims, var),
         is_narrow: is_narrow(var),
     })
-}
-
-/// Returns true if each value of the variable has less than four bytes.
-fn is_narrow(var: &Var) -> bool
-    ensures { result ≡ is_narrow var.now }
-{
-    var.ty.size() < 4
 }

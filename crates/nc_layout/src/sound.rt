@@ -7,10 +7,7 @@ ghost use Rattle.nc_layout.specs.Findings.{IsSoundSlot};
 
 use crate::records::capped_record_bytes;
 use crate::slot::{FileLayout, Slot};
-use nc_base::RECORD_LIMIT;
-
-/// The greatest slab in bytes: 2^48.
-const SLAB_LIMIT: u64 = 1 << 48;
+use nc_base::{RECORD_LIMIT, SLAB_LIMIT};
 
 /// What a begin is below: 2^63.
 const BEGIN_LIMIT: u64 = 1 << 63;
