@@ -1,11 +1,11 @@
 //! The sizes of slabs and of records, the number of records, and where a variable ends.
 
-ghost use Rattle.std.specs.Prelude.{◌≡◌, ◌+◌, ◌*◌, ◌/◌, ◌<◌, ◌≤◌, ◌^◌, ◌&&◌, IfSome, if◌then◌else◌, length, map, min, slice_get, SomeIff};
+ghost use Rattle.std.specs.Prelude.{◌≡◌, ◌+◌, ◌*◌, ◌/◌, ◌<◌, ◌≤◌, ◌^◌, IfSome, length, map, min, slice_get, sum_by, SomeIff};
 ghost use Rattle.nc_types.specs.Types.{size_of};
 ghost use Rattle.nc_types.specs.Bytes.{padding_len};
 ghost use Rattle.nc_base.specs.Sizes.{slab_len, dim_len, is_record_dim, is_record_shape, is_record_var, is_narrow, product, slab_size, padded_size, slab_limit, record_size, record_limit, record_vars, records_begin, record_count, value_count};
-ghost use Rattle.nc_base.specs.code.SizeParts.{slab_at, checked_record_size, extent_sum, CountsValues, IsCappedSlab};
-ghost use Rattle.nc_base.specs.GeneratedFile.{known_records};
+ghost use Rattle.nc_base.specs.code.SizeParts.{slab_at, slab_if, checked_record_size, extent_sum, CountsValues, IsCappedSlab};
+ghost use Rattle.nc_base.specs.GeneratedFile.{is_sole_narrow, known_records};
 ghost use Rattle.nc_base.specs.code.Extents.{extent_end};
 ghost use Rattle.nc_base.specs.Headers.{IsSound};
 
@@ -37,18 +37,8 @@ pub fn rec_size(header: &Header) -> Option<u64>
     ensures { result ≡ checked_record_size header.now }
 {
     let dims = header.dims.as_slice();
-    let mut size = 0;
-    let mut padded = 0;
-    let mut is_first = true;
-    for var in header.vars.as_slice() {
-        if is_record_var(dims, var) {
-            let slab = slab_len(dims, var.dimids.as_slice(), var.ty)?;
-            let with_padding = padded + padded_len(slab);
-            size = record_size_up_to(is_first, var, slab, with_padding);
-            padded = with_padding;
-            is_first = false;
-        }
-    }
+    let vars = header.vars.as_slice();
+    let size = capped_record_bytes(dims, vars, is_sole_narrow(dims, vars));
     if size <= RECORD_LIMIT {
         Some(size as u64)
     } else {
@@ -199,16 +189,48 @@ fn records_begin(dims: &[Dim], vars: &[Var]) -> Option<u64>
         .min()
 }
 
-/// Returns the record size in bytes of the record variables up to `var`, the last one so far. `slab` is the number of bytes of the slab of
-/// `var`, and `with_padding` is that of the padded slabs of all these variables. The result is `slab` if `var` is the only one (`is_first`)
-/// and narrow ([`is_narrow`]), otherwise `with_padding`.
-fn record_size_up_to(is_first: bool, var: &Var, slab: u64, with_padding: u128) -> u128
-    ensures { result ≡ (if is_first && is_narrow var.now then slab else with_padding) }
+/// Returns true if there is exactly one record variable, and it is narrow ([`is_narrow`]).
+#[tactic(auto, using(crate::proofs::SizeLaws::sole_is, crate::proofs::SizeLaws::rest_taken, crate::proofs::SizeLaws::rest_skipped))]
+fn is_sole_narrow(dims: &[Dim], vars: &[Var]) -> bool
+    ensures { result ≡ is_sole_narrow (record_vars dims.now vars.now) }
 {
-    if is_first && is_narrow(var) {
-        slab as u128
-    } else {
-        with_padding
+    let mut sole = None;
+    for var in vars {
+        if is_record_var(dims, var) {
+            if sole.is_some() {
+                return false;
+            }
+            sole = Some(is_narrow(var));
+        }
+    }
+    sole.unwrap_or(false)
+}
+
+/// Returns the bytes that the slabs of all record variables take in a record ([`slab_in_record`]), or 2^62 + 1 if these are more than 2^62.
+#[tactic(auto, using(crate::proofs::SizeLaws::rest_taken, crate::proofs::SizeLaws::rest_skipped))]
+fn capped_record_bytes(dims: &[Dim], vars: &[Var], sole_narrow: bool) -> u128
+    ensures { result
+        ≡ min (sum_by (slab_if dims.now sole_narrow) (record_vars dims.now vars.now)) (record_limit + 1) }
+{
+    let mut bytes: u128 = 0;
+    for var in vars {
+        if is_record_var(dims, var) {
+            bytes = (bytes + slab_in_record(dims, var, sole_narrow)).min(RECORD_LIMIT + 1);
+        }
+    }
+    bytes
+}
+
+/// Returns the bytes that the slab of the variable takes in a record: padded, or without padding if `sole_narrow` says that no other
+/// variable has records and its values are narrow. Returns 2^62 + 1, which no record has, if the slab passes 2^48 bytes.
+fn slab_in_record(dims: &[Dim], var: &Var, sole_narrow: bool) -> u128
+    ensures bytes { result ≡ slab_if dims.now sole_narrow var.now }
+    ensures small { result ≤ record_limit + 1 }
+{
+    match slab_len(dims, var.dimids.as_slice(), var.ty) {
+        Some(slab) if sole_narrow => slab as u128,
+        Some(slab) => padded_len(slab),
+        None => RECORD_LIMIT + 1,
     }
 }
 

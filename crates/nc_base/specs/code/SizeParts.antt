@@ -3,7 +3,7 @@ use Rattle.std.specs.Prelude.{◌≡◌, ◌≤◌, ℕ, ◌+◌, ◌-◌, ◌*�
 use Rattle.std.specs.List.{list_all}
 use Rattle.nc_base.specs.declared.{header.Dim.Dim, header.Var.Var, header.Header.Header}
 use Rattle.nc_types.specs.declared.{nc_type.NcType.NcType}
-use Rattle.nc_base.specs.Sizes.{value_count, is_record_dim, is_record_var, slab_size, record_vars, record_size, slab_limit, record_limit, slab_len}
+use Rattle.nc_base.specs.Sizes.{value_count, is_record_dim, is_record_var, slab_size, padded_size, record_vars, record_size, slab_limit, record_limit, slab_len}
 
 -- the id is that of a dimension other than the record dimension
 abbrev pub is_fixed_dim : List Dim → ℕ → Bool
@@ -16,6 +16,12 @@ slab_at h v = slice_index (map (slab_size h.dims) h.vars) v
 -- a slab keeps the limit
 abbrev pub has_small_slab : List Dim → Var → Bool
 has_small_slab dims var = nat_le (slab_size dims var) slab_limit
+
+-- the bytes that the slab of a record variable takes in a record: not padded if `narrow` (it is the only one, and narrow); one more than a
+-- record may have, if it passes the limit of a slab
+abbrev pub slab_if : List Dim → Bool → Var → ℕ
+slab_if dims narrow var =
+    if has_small_slab dims var then (if narrow then slab_size dims var else padded_size dims var) else record_limit + 1
 
 -- the record size, or None if the slab of a record variable or the record size itself passes its limit
 abbrev pub checked_record_size : Header → Option ℕ
