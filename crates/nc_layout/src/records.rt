@@ -4,7 +4,7 @@ ghost use Rattle.std.specs.Prelude.{◌≡◌, ◌<◌, ◌^◌, ◌+◌, ◌/�
 ghost use Rattle.nc_base.specs.Sizes.{record_limit};
 ghost use Rattle.nc_layout.specs.Slots.{padded_slab_len, record_slots, is_sole_narrow, records_begin};
 ghost use Rattle.nc_layout.specs.Findings.{IsSoundLayout};
-ghost use Rattle.nc_layout.specs.code.Records.{sole, slab_if, AreRecords};
+ghost use Rattle.nc_layout.specs.code.Records.{slab_if, AreRecords};
 
 use crate::slot::{FileLayout, Slot};
 use nc_base::{NumRecs, RECORD_LIMIT, padding_len};
@@ -98,29 +98,20 @@ fn records_begin(slots: &[Slot]) -> Option<u64>
 }
 
 /// Returns true if exactly one of the variables is a record variable, and its values have less than four bytes each.
+#[tactic(auto, using(crate::proofs::SlotLists::sole_is))]
 fn is_sole_narrow(slots: &[Slot]) -> bool
     ensures { result ≡ is_sole_narrow (record_slots slots.now) }
-{
-    match sole_record_slot(slots) {
-        Some(slot) => slot.is_narrow,
-        None => false,
-    }
-}
-
-/// Returns the slot of the only record variable, or `None` if there is none or more than one.
-fn sole_record_slot(slots: &[Slot]) -> Option<Slot>
-    ensures { result ≡ sole (record_slots slots.now) }
 {
     let mut sole = None;
     for slot in slots {
         if slot.is_record {
             if sole.is_some() {
-                return None;
+                return false;
             }
-            sole = Some(*slot);
+            sole = Some(slot.is_narrow);
         }
     }
-    sole
+    sole.unwrap_or(false)
 }
 
 /// Returns how many whole records of `size` bytes fit into `bytes` bytes, or 0 if `size` is 0.

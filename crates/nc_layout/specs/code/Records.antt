@@ -1,12 +1,7 @@
 -- For contracts. What is computed of the records of a file once and for all.
-use Rattle.std.specs.Prelude.{◌≡◌, ℕ, Bool, if◌then◌else◌, List, [], ◌∷◌, Option, None, Some}
+use Rattle.std.specs.Prelude.{◌≡◌, ℕ, Bool, if◌then◌else◌}
 use Rattle.nc_layout.specs.declared.{slot.Slot.Slot, slot.FileLayout.FileLayout, records.FileRecords.FileRecords}
 use Rattle.nc_layout.specs.Slots.{padded_slab_len, record_slots, is_sole_narrow, record_size, records_begin, records_by_length, record_count}
-
--- the only slot of these, if there is one
-abbrev pub sole : List Slot → Option Slot
-sole (slot ∷ []) = Some slot
-sole slots = None
 
 -- the bytes that the slab of a record slot takes in a record: not padded if `narrow` (it is the only one, and its values are narrow)
 abbrev pub slab_if : Bool → Slot → ℕ
