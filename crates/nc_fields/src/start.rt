@@ -10,7 +10,7 @@ use devices::Source;
 use nc_base::Sequence;
 use nc_findings::{Content, Entry, ListFault};
 use nc_window::{HeadFault, Window};
-use std::alloc::{AllocError, Global};
+use std::alloc::Global;
 
 /// How many of the bytes that are kept of the start of a file come after the three that should be `CDF`.
 const AFTER_LETTERS: u64 = 52 - 3;
@@ -34,7 +34,8 @@ pub(crate) fn start_of<S: Source>(
     if !is_foreign(letters, window.offset_of_next()) {
         return Ok(Sequence::new(alloc));
     }
-    let mut start = copy_of(alloc, letters)?;
+    let mut start = Sequence::new(alloc);
+    start.extend_from_slice(letters)?;
     match window.read_up_to(&mut start, AFTER_LETTERS) {
         Ok(()) => Ok(start),
         Err(HeadFault::ReadFailed) => Err(ListFault::ReadFailed),
@@ -67,13 +68,4 @@ fn is_foreign(letters: &[u8], end: u64) -> bool
     ensures { result ≡ is_foreign letters.now end }
 {
     letters != b"CDF".as_slice() && letters.len() as u64 == end
-}
-
-/// Returns a copy of the bytes. Errs if an allocation fails.
-fn copy_of(alloc: Global, bytes: &[u8]) -> Result<Sequence<u8>, AllocError>
-    ensures { IfOk result (λ copy. copy ≡ bytes.now) }
-{
-    let mut copy = Sequence::new(alloc);
-    copy.extend_from_slice(bytes)?;
-    Ok(copy)
 }
