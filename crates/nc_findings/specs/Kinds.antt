@@ -63,9 +63,9 @@ kind_of (fact.Layout fact) = kind_of_layout fact
 
 -- ---- of kinds
 
--- A note is legal or without any effect, but odd. A violation breaks a rule of the format or a limit of netCDF-C, but each value can be
--- had. All others are errors: values can't be had, or can't be trusted. The header can't be read on, values aren't in the file, or netCDF-C
--- refuses to open it.
+-- A note is legal or without any effect, but odd. A violation breaks a rule of the format or a limit of netCDF-C, or netCDF-C may read it as
+-- something else, but each value can be had. All others are errors: values can't be had, or can't be trusted. The header can't be read on,
+-- values aren't in the file, or netCDF-C refuses to open it.
 abbrev pub severity_of : Kind → Severity
 severity_of FloatingType = Note
 severity_of UnusedRecords = Note

@@ -12,7 +12,8 @@ use nc_base::FormatFault;
 pub enum Severity {
     /// It is legal, or has no effect, but is odd.
     Note,
-    /// It breaks the NetCDF Classic Format Specification, or a limit of netCDF-C, but each value can be had.
+    /// It breaks the NetCDF Classic Format Specification or a limit of netCDF-C, or netCDF-C may read it as something else, but each value
+    /// can be had.
     Violation,
     /// Values can't be had, or can't be trusted: the header can't be read on, values aren't in the file, or netCDF-C refuses to open it.
     Error,

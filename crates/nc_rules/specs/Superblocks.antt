@@ -12,7 +12,7 @@ use Rattle.nc_findings.specs.Contents.{hdf5_signature}
 use Rattle.nc_findings.specs.declared.finding.Finding.{Finding}
 use Rattle.nc_findings.specs.declared.finding.Fact.TheVariants.{Hdf5Truncated}
 
--- the bytes of the shortest superblocks, those of the versions 2 and 3
+-- the bytes of the shortest superblocks with addresses of eight bytes, those of the versions 2 and 3
 abbrev pub least_superblock : ℕ
 least_superblock = 48
 

@@ -5,7 +5,7 @@ use Rattle.clap.specs.declared.error.kind.ErrorKind.{ErrorKind}
 use Rattle.clap.proofs.OnLiterals.{clap_on_literals}
 use Rattle.clap.specs.declared.error.kind.ErrorKind.TheVariants as kinds
 use Rattle.nccheck.specs.CommandLine.{if_faultless}
-use Rattle.nccheck.specs.Misuse.{Misuse, misuse_of}
+use Rattle.nccheck.specs.Misuse.{Misuse, misuse_in}
 use Rattle.nccheck.specs.code.Misuses.{RefusesBy, Says}
 use Rattle.nccheck.specs.declared.misuse.CommandFault.{CommandFault}
 use Rattle.nccheck.specs.declared.misuse.CommandFault.TheVariants.{Misused, OutOfMemory}
@@ -27,7 +27,7 @@ pub asked_by_taken : (words : List (List ℕ)) (rows : List Row) → fault_of nc
     → asked_in rows ≡ asked_by words
 unfolding asked_by
 asked_by_taken words rows none is =
-    ap asked_in is ∙ faultless (fault_of nccheck words) (misuse_of words) (asked_in (matches_of nccheck words)) none
+    ap asked_in is ∙ faultless (fault_of nccheck words) (misuse_in words) (asked_in (matches_of nccheck words)) none
 
 faulty : (kinds : Kinds) (kind : ErrorKind) (misuse : Misuse) (asked : Result Asked Misuse) → IsAmong kind kinds
     → if_faultless kinds misuse asked ≡ Err misuse
@@ -35,11 +35,11 @@ faulty [] kind misuse asked among = absurd among
 faulty (k ∷ ks) kind misuse asked among = refl
 
 -- the answer to words that the command doesn't take
-pub refused_words : (words : List (List ℕ)) (kind : ErrorKind) (fault : CommandFault) → RefusesBy kind (misuse_of words) fault
+pub refused_words : (words : List (List ℕ)) (kind : ErrorKind) (fault : CommandFault) → RefusesBy kind (misuse_in words) fault
     → (kind ≡ kinds.OutOfMemory) ⊎ IsAmong kind (fault_of nccheck words) → Says asked_for (asked_by words) (Err fault)
 unfolding asked_by
 refused_words words kind OutOfMemory refuses has = tt
 refused_words words kind (Misused why) refuses (inl is) = absurd (refuses.0 is)
 refused_words words kind (Misused why) refuses (inr among) =
-    faulty (fault_of nccheck words) kind (misuse_of words) (asked_in (matches_of nccheck words)) among
+    faulty (fault_of nccheck words) kind (misuse_in words) (asked_in (matches_of nccheck words)) among
     ∙ ap (λ (misuse : Misuse). Err misuse) refuses.1

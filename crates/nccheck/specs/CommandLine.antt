@@ -10,7 +10,7 @@ use Rattle.nc_findings.specs.declared.kind.Severity.{Severity}
 use Rattle.nc_findings.specs.declared.kind.Severity.TheVariants.{Error, Violation, Note}
 use Rattle.check_lines.specs.Lines.{Filter}
 use Rattle.nccheck.specs.KindWords.{is_kind_word}
-use Rattle.nccheck.specs.Misuse.{Misuse, misuse_of, NoFile, NoKind, NoLevel, NotWithFormats, NotWithPaths}
+use Rattle.nccheck.specs.Misuse.{Misuse, misuse_in, NoFile, NoKind, NoLevel, NotWithFormats, NotWithPaths}
 use Rattle.nccheck.specs.declared.options.Form.{Form}
 use Rattle.nccheck.specs.declared.options.Form.TheVariants.{Lines, Objects, Paths}
 
@@ -118,4 +118,4 @@ if_faultless (kind ∷ kinds) misuse asked = Err misuse
 
 -- the first word is the program's name
 unfoldable pub asked_by : List Bytes → Result Asked Misuse
-asked_by words = if_faultless (fault_of nccheck words) (misuse_of words) (asked_in (matches_of nccheck words))
+asked_by words = if_faultless (fault_of nccheck words) (misuse_in words) (asked_in (matches_of nccheck words))

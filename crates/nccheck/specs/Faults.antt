@@ -49,7 +49,7 @@ fault_words WriteFailed = codes "write failed"
 unfoldable pub file_line : Bytes → FileFault → Bytes
 file_line file fault = concat_parts (codes "nccheck: " ∷ shown_path file ∷ codes ": " ∷ fault_words fault ∷ codes "\n" ∷ [])
 
--- the line of `-s`, the text of `-V` or `-h`, or what was held back could not be written
+-- what `-s`, `-V` or `-h` asks for, or what was held back could not be written
 unfoldable pub flush_line : Bytes
 flush_line = codes "nccheck: write failed\n"
 

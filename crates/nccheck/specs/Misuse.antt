@@ -59,14 +59,19 @@ abbrev pub uses : ℕ → List Bytes → ℕ
 uses x [] = 0
 uses x (word ∷ words) = if bytes_eq word (codes "--") then 0 else uses_in x (letters_of word) + uses x words
 
--- the first option that is given twice
+-- of the options that are given twice, the first in the order of their letters above
 abbrev pub first_twice : List Bytes → Option ℕ
 first_twice words = find (λ x. nat_lt 1 (uses x words)) option_letters
 
--- why a parse refuses these words: one of them is no option, an option stands twice, or one has no value
+-- why a parse refuses these words: one of them is no option, an option is given twice, or one has no value
 abbrev pub misuse_of : List Bytes → Misuse
 misuse_of words =
     elim (first_no_option words) [
       | Some word ↦ NoOption word
       | None ↦ elim (first_twice words) [ Some letter ↦ GivenTwice letter | None ↦ NoValue ]
     ]
+
+-- the first word is the program's name
+abbrev pub misuse_in : List Bytes → Misuse
+misuse_in [] = NoValue
+misuse_in (name ∷ words) = misuse_of words

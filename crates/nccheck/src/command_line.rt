@@ -8,12 +8,12 @@ ghost use Rattle.cli_base.specs.Arguments.{texts_of};
 ghost use Rattle.cli_base.specs.code.Answers.{text_of};
 ghost use Rattle.nccheck.specs.CommandLine.{asked_by, asked_in, asks_of_findings, changes_output, files_in, files_rule, form_in, ignored_in, kinds_said, level_in, level_said, nccheck};
 ghost use Rattle.nccheck.specs.KindWords.{is_kind_word};
-ghost use Rattle.nccheck.specs.Misuse.{misuse_of};
+ghost use Rattle.nccheck.specs.Misuse.{misuse_in};
 ghost use Rattle.nccheck.specs.code.Misuses.{RefusesBy, Says};
 ghost use Rattle.nccheck.specs.code.Options.{asked_for, lent_texts, texts_in};
 
 use crate::kind_words::is_kind_word;
-use crate::misuse::{CommandFault, Misuse, misuse_of};
+use crate::misuse::{CommandFault, Misuse, misuse_in};
 use crate::options::{CheckOptions, Form};
 use check_lines::FilterOptions;
 use clap::error::ErrorKind;
@@ -74,11 +74,11 @@ pub(crate) fn options_of_words<'a>(
 
 /// Returns the fault of words that the command doesn't take, by the kind of the parse's error: out of memory, or how they are misused.
 fn refusal<'a>(kind: ErrorKind, words: &[&'a str]) -> CommandFault<'a>
-    ensures { RefusesBy kind (misuse_of (texts_of words.now)) result }
+    ensures { RefusesBy kind (misuse_in (texts_of words.now)) result }
 {
     match kind {
         ErrorKind::OutOfMemory => CommandFault::OutOfMemory,
-        _ => CommandFault::Misused(misuse_of(words)),
+        _ => CommandFault::Misused(misuse_in(words)),
     }
 }
 

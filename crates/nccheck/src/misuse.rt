@@ -3,7 +3,7 @@
 ghost use Rattle.std.specs.Prelude.{◌≡◌};
 ghost use Rattle.cli_base.specs.Arguments.{texts_of};
 ghost use Rattle.cli_base.specs.code.Answers.{text_of};
-ghost use Rattle.nccheck.specs.Misuse.{first_no_option, first_twice, has_other, has_value, is_option, letters_of, misuse_of, uses, uses_in};
+ghost use Rattle.nccheck.specs.Misuse.{first_no_option, first_twice, has_other, has_value, is_option, letters_of, misuse_in, misuse_of, uses, uses_in};
 ghost use Rattle.nccheck.specs.code.Misuses.{told};
 ghost use Rattle.nccheck.specs.declared.misuse.CommandFault.TheVariants.{Misused, OutOfMemory as out_of_memory};
 
@@ -60,9 +60,19 @@ impl<'a> From<Misuse<'a>> for CommandFault<'a> {
 /// The letters of the options. The last two have a value.
 const OPTION_LETTERS: &[u8] = b"qsjpk0li";
 
+/// Returns why a parse refuses these words ([`misuse_of`]). Doesn't look at the first word, which is the program's name.
+pub(crate) fn misuse_in<'a>(words: &[&'a str]) -> Misuse<'a>
+    ensures { told result ≡ misuse_in (texts_of words.now) }
+{
+    match words {
+        [_name, words @ ..] => misuse_of(words),
+        [] => Misuse::NoValue,
+    }
+}
+
 /// Returns why a parse refuses these words: the first word that is no option, or else the first letter that stands twice, or else an
 /// option without its value.
-pub(crate) fn misuse_of<'a>(words: &[&'a str]) -> Misuse<'a>
+fn misuse_of<'a>(words: &[&'a str]) -> Misuse<'a>
     ensures { told result ≡ misuse_of (texts_of words.now) }
 {
     match (first_no_option(words), first_twice(words)) {

@@ -205,6 +205,8 @@ no option --foo|nccheck clean --foo -q -q
 no option -qx|nccheck -qx -l worst
 no option -q=1|nccheck -q=1 clean
 an option has no value|nccheck clean -l
+an option has no value|-nccheck clean -l
+-q is given twice|-- -q -q clean
 an option has no value|nccheck -i -q clean
 -p takes no -q, -s or -j beside it|nccheck -pq clean
 -p takes no -q, -s or -j beside it|nccheck -s -p clean

@@ -1,6 +1,6 @@
 use Rattle.nccheck.proofs.Prelude.{texts_of, App, HasKind, fault_of, found_of, is_simple, is_simple_and_free, kind_of, matches_of, rows_of, Asked, asked_for, Result, ◌∙◌, ap, subst, sym}
 use Rattle.nccheck.proofs.CommandLines.{asked_by_taken, is_exact, is_plain, refused_words}
-use Rattle.nccheck.specs.Misuse.{Misuse, misuse_of}
+use Rattle.nccheck.specs.Misuse.{Misuse, misuse_in}
 use Rattle.nccheck.specs.code.Misuses.{RefusesBy, Says}
 use Rattle.clap.specs.declared.error.kind.ErrorKind.{ErrorKind}
 use Rattle.nccheck.proofs.command_line.options_of_words.Goals as goal
@@ -19,5 +19,5 @@ returns-in-Err c =
     let words = texts_of c.args.words.now in
     let is = c.in_ok-command.ensures in
     let has = subst (λ (app : App). HasKind (fault_of app words) c.in-Err.error) is (c.in-Err.ensures.kinds (ap is_simple_and_free is ∙ is_plain)) in
-    let refuses = subst (λ (kind : ErrorKind). RefusesBy kind (misuse_of words) c.refusal.result) c.kind.ensures c.refusal.ensures in
+    let refuses = subst (λ (kind : ErrorKind). RefusesBy kind (misuse_in words) c.refusal.result) c.kind.ensures c.refusal.ensures in
     refused_words words (kind_of c.in-Err.error) c.refusal.result refuses has
