@@ -28,7 +28,7 @@ path l names None x = codes "data"
 abbrev pub entry_of : Listing → Finding → Option Entry
 entry_of l f = option_and_then (slice_get l.entries) f.field
 
--- what is told of a finding in the file of this path
+-- what is told of a finding in the file of this path: its line says it, and its JSON object has it in members, so that these tell the line
 pub record Told : Type 0 where
   pub file : Bytes
   pub offset : ℕ

@@ -1,4 +1,4 @@
-//! The content of a field, as it is told.
+//! The content of a field, as it is told. The functions write it in a style: as it stands in a line, or in a string of JSON.
 
 ghost use Rattle.std.specs.Prelude.{◌≡◌, ◌<◌};
 ghost use Rattle.devices.specs.code.SinkWrites.{Wrote};

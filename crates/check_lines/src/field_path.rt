@@ -1,4 +1,4 @@
-//! Paths: the words that say where a finding lies.
+//! Paths: the words that say where a finding lies. The functions write them in a style: as they stand in a line, or in a string of JSON.
 
 ghost use Rattle.std.specs.Prelude.{◌≡◌};
 ghost use Rattle.devices.specs.code.SinkWrites.{Wrote};

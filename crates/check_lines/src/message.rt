@@ -1,4 +1,5 @@
-//! Messages: what is found, and what is expected in its place, each as a text with blanks and the parts that stand in their place.
+//! Messages: what is found, and what is expected in its place, each as a text with blanks and the parts that stand in their place. The
+//! functions write them in a style: as they stand in a line, or in strings of JSON.
 
 ghost use Rattle.std.specs.Prelude.{◌≡◌, Some};
 ghost use Rattle.std.specs.List.{after_first, before_first};

@@ -1,4 +1,4 @@
-//! How the bytes of names and paths are shown.
+//! How the bytes of names and paths are shown. The functions with a style write them as they stand in a line, or in a string of JSON.
 
 ghost use Rattle.std.specs.Prelude.{◌≡◌, ◌≤◌};
 ghost use Rattle.std.specs.List.{list_all};
