@@ -1,5 +1,5 @@
 -- Definition. Which words are those of kinds.
-use Rattle.std.specs.Prelude.{◌≡◌, Bool, Option, Some, find}
+use Rattle.std.specs.Prelude.{◌≡◌, Bool, true}
 use Rattle.std.specs.List.{list_any}
 use Rattle.std.specs.Str.{bytes_eq}
 use Rattle.nc_types.specs.Bytes.{Bytes}
@@ -11,10 +11,6 @@ use Rattle.nccheck.specs.declared.kind_words.TheConstants.{KINDS}
 unfoldable pub is_kind_word : Bytes → Bool
 is_kind_word word = list_any (λ (kind : Kind). bytes_eq word (kind_word kind)) KINDS.now
 
--- the kind that a word names: the first of the list that has it
-abbrev pub kind_named : Bytes → Option Kind
-kind_named word = find (λ (kind : Kind). bytes_eq word (kind_word kind)) KINDS.now
-
--- no kind is left out of the list, and no two have one word
-abbrev pub EachWordNamesItsKind : Type 0
-EachWordNamesItsKind = (kind : Kind) → kind_named (kind_word kind) ≡ Some kind
+-- no kind is left out of the list
+abbrev pub EachKindHasAWord : Type 0
+EachKindHasAWord = (kind : Kind) → is_kind_word (kind_word kind) ≡ true

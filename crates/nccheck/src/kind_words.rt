@@ -1,7 +1,7 @@
 //! The words that name kinds.
 
 ghost use Rattle.std.specs.Prelude.{◌≡◌};
-ghost use Rattle.nccheck.specs.KindWords.{EachWordNamesItsKind, is_kind_word};
+ghost use Rattle.nccheck.specs.KindWords.{EachKindHasAWord, is_kind_word};
 
 use check_lines::kind_word;
 use nc_report::Kind;
@@ -52,12 +52,11 @@ pub(crate) const KINDS: &[Kind] = &[
     Kind::Trailing,
 ];
 
-/// Returns true if `word` is the word of a kind of findings, such as `gap`. The clause `all` says that each kind has a word, and no other
-/// kind the same.
+/// Returns true if `word` is the word of a kind of findings, such as `gap`. The clause `all` says that it is so for the word of each kind.
 #[tactic(auto, unfolding(crate::specs::KindWords::is_kind_word))]
 pub(crate) fn is_kind_word(word: &str) -> bool
     ensures word { result ≡ is_kind_word word.now }
-    ensures all { EachWordNamesItsKind }
+    ensures all { EachKindHasAWord }
 {
     KINDS.iter().any(|kind| word == kind_word(*kind))
 }
