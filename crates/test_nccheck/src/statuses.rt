@@ -230,9 +230,27 @@ static OTHERS: &[Run<'_>] = &[
         b"names\0text\0",
         b"nccheck: none: cannot open: no such file\n",
     ),
-    (&["nccheck", "-pl", "error", "names", "text"], ROOM, 1, b"text\0", b""),
-    (&["nccheck", "-p", "-i", "duplicate-name", "names", "clean"], ROOM, 0, b"", b""),
-    (&["nccheck", "-p", "names"], 5, 2, b"names", b"nccheck: names: write failed\n"),
+    (
+        &["nccheck", "-pl", "error", "names", "text"],
+        ROOM,
+        1,
+        b"text\0",
+        b"",
+    ),
+    (
+        &["nccheck", "-p", "-i", "duplicate-name", "names", "clean"],
+        ROOM,
+        0,
+        b"",
+        b"",
+    ),
+    (
+        &["nccheck", "-p", "names"],
+        5,
+        2,
+        b"names",
+        b"nccheck: names: write failed\n",
+    ),
     // a path with control characters and backslashes, which are escaped, and with quotes and letters, which are not
     (
         &["nccheck", "a\t\n\x01\x7f\\\"'\u{e9}"],
@@ -358,7 +376,13 @@ fn ends_misused(
     for part in ["nccheck: ", how, "\n", USAGE] {
         trouble.push_str(part)?;
     }
-    let run = (words.as_slice(), ROOM, 2, b"".as_slice(), trouble.as_bytes());
+    let run = (
+        words.as_slice(),
+        ROOM,
+        2,
+        b"".as_slice(),
+        trouble.as_bytes(),
+    );
     Ok(ends(alloc, files, &run, UNREAD))
 }
 
