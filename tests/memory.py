@@ -108,7 +108,7 @@ TEXTS = {
     "characters in 64 MiB": (generated, lambda: characters(64 * MB - 100), 210_000_000),  # 201_337_817
     "attribute of 64 MiB": (generated, lambda: note(64 * MB - 100), 210_000_000),  # 201_336_401
     "attribute of 64 MiB dumped": (dumped, lambda: note(64 * MB - 100), 280_000_000),  # 267_200_033
-    "attribute of 64 MiB checked": (checked, lambda: note(64 * MB - 100), 35_000),  # 33_327
+    "attribute of 64 MiB checked": (checked, lambda: note(64 * MB - 100), 47_000),  # 44_463
     "250,000 short rows": (generated, lambda: short_rows(250_000), 7_200_000),  # 6_827_157
     "names of 1,000 bytes": (generated, lambda: named(1_000), 105_000),  # 95_632
     "names of 1,000 bytes dumped": (dumped, lambda: named(1_000), 90_000),  # 82_906

@@ -68,7 +68,7 @@ run bash -c '"$0" -p cut.nc stations.nc cut.nc | tr "\0" :' "$nccheck"
 stdout 'cut.nc:cut.nc:'
 verdict paths_of_files_with_findings 0
 cp "$samples/counters.nc" .
-stdout 'nc3\nnc5\nnc3\n'
+stdout 'nc6\nnc5\nnc6\n'
 stderr 'nccheck: loop: cannot open\nnccheck: /dev/null: cannot open: not a regular file\n'
 run "$nccheck" -k cut.nc counters.nc loop /dev/null stations.nc
 verdict formats 2

@@ -275,7 +275,7 @@ verdict damaged_files_are_in_the_list 0
 cp "$samples/stations.nc" f.nc
 printf '\0\0\0\2' | dd of=f.nc bs=1 seek=4 conv=notrunc status=none
 run nccheck f.nc
-stdout 'f.nc:480: violation: trailing: data: found 504 bytes, expected 480, or numrecs 3\n'
+stdout 'f.nc:496: violation: trailing: data: found 504 bytes, expected 496, or numrecs 3\n'
 verdict records_that_are_not_counted 1
 recipe 'seek=4'
 verdict records_are_counted 0

@@ -39,7 +39,7 @@ pub(crate) fn start_of<S: Source>(
     match window.read_up_to(&mut start, AFTER_LETTERS) {
         Ok(()) => Ok(start),
         Err(HeadFault::ReadFailed) => Err(ListFault::ReadFailed),
-        Err(_) => Err(ListFault::OutOfMemory),
+        Err(HeadFault::OutOfMemory | HeadFault::Format(_)) => Err(ListFault::OutOfMemory),
     }
 }
 
