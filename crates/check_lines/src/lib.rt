@@ -6,6 +6,14 @@
 //!
 //! Each function that takes a [`Sink`](devices::Sink) writes its text from beginning to end, and does not allocate. It errs only if the
 //! sink fails, and writes nothing after that.
+//!
+//! ```
+//! let filter = FilterOptions {
+//!     level: Severity::Note,
+//!     ignored: Sequence::new(alloc),
+//! };
+//! put_lines(sink, b"a.nc", report, &filter)
+//! ```
 #![tactic(auto)]
 
 mod content;

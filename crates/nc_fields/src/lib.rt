@@ -4,6 +4,12 @@
 //! size and what matters of its content. If the header is wrong, the list ends with the first wrong field and its fault. Files with floats
 //! and doubles are taken, since no value is read. Of a file that doesn't begin with `CDF` it has the first 52 bytes. It is what a check of a
 //! file looks at; the rules on begins, sizes and the length of a file are those of the crate `nc_layout`.
+//!
+//! ```
+//! let mut buf = [0; 4096];
+//! let listing = list_fields(alloc, source, &mut buf)?;
+//! Ok(listing.entries.len())
+//! ```
 #![tactic(auto)]
 
 mod attribute;

@@ -1,5 +1,4 @@
 pub mod Prelude
-pub mod CommandLines
 pub mod InTurn
 pub mod Listing
 pub mod Openings

@@ -10,7 +10,7 @@ use Rattle.nc_window.specs.declared.head_fault.HeadFault.TheVariants as head
 use Rattle.cli_base.specs.declared.fault.OptFault.{OptFault}
 use Rattle.cli_base.specs.declared.fault.OptFault.TheVariants as opt
 use Rattle.check_lines.specs.Shown.{shown_path}
-use Rattle.nccheck.specs.Misuse.{Misuse, GivenTwice, NoFile, NoKind, NoLevel, NoOption, NotWithFormats, NotWithPaths, NoValue}
+use Rattle.check_options.specs.Misuse.{Misuse, GivenTwice, NoFile, NoKind, NoLevel, NoOption, NotWithFormats, NotWithPaths, NoValue}
 use Rattle.nccheck.specs.declared.{fault.FileFault.FileFault, fault.PathFault.PathFault}
 use Rattle.nccheck.specs.declared.fault.FileFault.TheVariants.{BadPath, CannotOpen, ReadFailed, NotClassic, OutOfMemory, WriteFailed}
 use Rattle.nccheck.specs.declared.fault.PathFault.TheVariants.{Empty, TooLong, NotUtf8}

@@ -1,7 +1,4 @@
-pub mod KindWords
 pub mod PathLists
-pub mod Misuse
-pub mod CommandLine
 pub mod Faults
 pub mod Info
 pub mod Formats

@@ -15,15 +15,16 @@ use Rattle.nc_findings.specs.declared.listing.Listing.{Listing}
 use Rattle.nc_findings.specs.declared.{finding.Finding.Finding, report.Report.Report}
 use Rattle.check_lines.specs.Json.{json_lines}
 use Rattle.check_lines.specs.Lines.{Filter, gravest, lines}
-use Rattle.nccheck.specs.CommandLine.{Asked, asked_by}
+use Rattle.check_options.specs.CommandLine.{Asked, asked_by}
+use Rattle.check_options.specs.Misuse.{Misuse}
+use Rattle.check_options.specs.declared.options.Form.{Form}
+use Rattle.check_options.specs.declared.options.Form.TheVariants.{Lines, Objects, Paths}
 use Rattle.nccheck.specs.Faults.{file_line, flush_line, refusal_lines}
 use Rattle.nccheck.specs.Formats.{format_line, format_of}
 use Rattle.nccheck.specs.Info.{info_in, info_text}
-use Rattle.nccheck.specs.Misuse.{Misuse}
 use Rattle.nccheck.specs.PathLists.{path_fault, Item, items_in, ListEnd, Path, Unread, Whole, Broken}
 use Rattle.nccheck.specs.Tallies.{Answer, outcome_of, status_of, summary, tally_of}
-use Rattle.nccheck.specs.declared.{fault.FileFault.FileFault, info.Info.Info, options.Form.Form, tally.Outcome.Outcome}
-use Rattle.nccheck.specs.declared.options.Form.TheVariants.{Lines, Objects, Paths}
+use Rattle.nccheck.specs.declared.{fault.FileFault.FileFault, info.Info.Info, tally.Outcome.Outcome}
 use Rattle.nccheck.specs.declared.tally.Outcome.TheVariants.{NothingReported}
 use Rattle.nccheck.specs.declared.fault.FileFault.TheVariants.{BadPath, CannotOpen, NotClassic, ReadFailed, OutOfMemory, WriteFailed}
 

@@ -7,9 +7,9 @@ use Rattle.nc_findings.specs.declared.{finding.Finding.Finding, kind.Kind.Kind}
 use Rattle.nc_findings.specs.declared.kind.Kind.TheVariants.{Hdf5, Gzip}
 use Rattle.nc_findings.specs.declared.kind.Severity.TheVariants.{Error, Violation, Note}
 use Rattle.check_lines.specs.Lines.{Filter, gravest}
+use Rattle.check_options.specs.declared.options.Form.{Form}
+use Rattle.check_options.specs.declared.options.Form.TheVariants.{Objects}
 use Rattle.nccheck.specs.declared.{fault.FileFault.FileFault, tally.Outcome.Outcome, tally.SummaryCount.SummaryCount, tally.Tally.Tally}
-use Rattle.nccheck.specs.declared.options.Form.{Form}
-use Rattle.nccheck.specs.declared.options.Form.TheVariants.{Objects}
 use Rattle.nccheck.specs.declared.tally.Outcome.TheVariants.{Reported, NothingReported, OtherFormat}
 use Rattle.nccheck.specs.declared.tally.SummaryCount.TheVariants.{Checked, WithErrors, WithViolations, WithNotes, WithNothing, OtherFormats, NotChecked}
 

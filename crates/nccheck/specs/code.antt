@@ -1,4 +1,2 @@
-pub mod Options
-pub mod Misuses
 pub mod Counts
 pub mod OpenedFiles

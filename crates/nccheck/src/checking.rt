@@ -4,18 +4,18 @@ ghost use Rattle.std.specs.Prelude.{◌≡◌, [], ◌∷◌, ◌++◌, false, O
 ghost use Rattle.std.specs.Bool.{OnTrue};
 ghost use Rattle.devices.specs.code.PathOpens.{NamesAsBefore};
 ghost use Rattle.devices.specs.code.SinkWrites.{Wrote};
+ghost use Rattle.check_options.specs.code.Options.{asked_for};
 ghost use Rattle.nccheck.specs.PathLists.{Path};
 ghost use Rattle.nccheck.specs.Runs.{ChecksBytes, ChecksItem, ChecksNamed, ChecksPath, ends_run, OpensFile, openings, Reports, shown, state, written, WriteFailsOnly};
 ghost use Rattle.nccheck.specs.code.OpenedFiles.{ReadsOpened};
-ghost use Rattle.nccheck.specs.code.Options.{asked_for};
 
 use crate::fault::FileFault;
 use crate::fault_text::put_file_fault;
 use crate::format::tell_format;
-use crate::options::{CheckOptions, Form};
 use crate::path_list::path_of;
 use crate::tally::{Outcome, outcome_of};
 use check_lines::{gravest, put_json_lines, put_lines};
+use check_options::{CheckOptions, Form};
 use devices::{Opener, Sink, Source, WriteFailed, put};
 use nc_report::{Report, check};
 use std::alloc::Global;

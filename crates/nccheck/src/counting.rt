@@ -4,20 +4,20 @@ ghost use Rattle.std.specs.Prelude.{◌≡◌, ◌+◌, ◌<◌, ◌≤◌, ◌^
 ghost use Rattle.cli_base.specs.Arguments.{texts_of};
 ghost use Rattle.devices.specs.Readers.{view_of};
 ghost use Rattle.devices.specs.code.PathOpens.{NamesAsBefore};
+ghost use Rattle.check_options.specs.code.Options.{asked_for};
 ghost use Rattle.nccheck.specs.Faults.{file_line};
 ghost use Rattle.nccheck.specs.PathLists.{last_items, Path, Whole};
 ghost use Rattle.nccheck.specs.Runs.{IsTold, openings, state};
 ghost use Rattle.nccheck.specs.Tallies.{counted, no_files, total};
 ghost use Rattle.nccheck.specs.code.Counts.{Counts, CountsAll, CountsList, Takes};
-ghost use Rattle.nccheck.specs.code.Options.{asked_for};
 ghost use Rattle.nccheck.specs.declared.fault.FileFault.TheVariants.{ReadFailed};
 
 use crate::checking::{check_item, ends_run};
 use crate::fault::FileFault;
 use crate::fault_text::put_file_fault;
-use crate::options::CheckOptions;
 use crate::path_list::{ListedPath, push_byte};
 use crate::tally::Tally;
+use check_options::CheckOptions;
 use devices::{CountedRead, Opener, Sink};
 use std::alloc::Global;
 use std::io::Read;

@@ -2,12 +2,12 @@
 
 ghost use Rattle.std.specs.Prelude.{◌≡◌};
 ghost use Rattle.devices.specs.code.SinkWrites.{Wrote};
+ghost use Rattle.check_options.specs.code.Misuses.{misuse_in, told};
 ghost use Rattle.nccheck.specs.Faults.{fault_words, file_line, flush_line, memory_line, misuse_text, misuse_words, open_words, opt_fault_lines, path_words, refusal_lines, usage_lines, utf8_line};
-ghost use Rattle.nccheck.specs.code.Misuses.{misuse_in, told};
 
 use crate::fault::{FileFault, PathFault};
-use crate::misuse::{CommandFault, Misuse};
 use check_lines::put_file_path;
+use check_options::{CommandFault, Misuse};
 use cli_base::OptFault;
 use devices::{OpenFailed, Sink, WriteFailed, put};
 

@@ -6,8 +6,8 @@ ghost use Rattle.nccheck.specs.Tallies.{checked, count_text, count_words, counte
 ghost use Rattle.check_lines.specs.code.Filters.{filter_for};
 
 use crate::fault::FileFault;
-use crate::options::Form;
 use check_lines::{FilterOptions, gravest};
+use check_options::Form;
 use devices::{Sink, WriteFailed, put, put_decimal};
 use nc_report::{Kind, Report, Severity};
 

@@ -2,6 +2,7 @@
 //! rest. `tests/documents.py` compares the two.
 #![tactic(auto)]
 
+pub mod checks;
 pub mod files;
 pub mod programs;
 pub mod surface;

@@ -2,7 +2,7 @@
 use Rattle.std.specs.Prelude.{◌≡◌, MatchBool, true, false, List, [], ◌++◌, fold, map, Option, Some, None}
 use Rattle.nc_types.specs.Bytes.{Bytes}
 use Rattle.devices.specs.Readers.{ReaderView}
-use Rattle.nccheck.specs.CommandLine.{Asked}
+use Rattle.check_options.specs.CommandLine.{Asked}
 use Rattle.nccheck.specs.PathLists.{Item, items_after, ListEnd, Path}
 use Rattle.nccheck.specs.Runs.{has_ended, Openings, ReadsList, RunsOver, State}
 use Rattle.nccheck.specs.Tallies.{Answer, counted, no_files, status_of}

@@ -1,0 +1,4 @@
+pub mod KindWords
+pub mod Misuse
+pub mod CommandLine
+pub mod code

@@ -1,0 +1,62 @@
+//! The words that name kinds.
+
+ghost use Rattle.std.specs.Prelude.{◌≡◌};
+ghost use Rattle.check_options.specs.KindWords.{EachWordNamesItsKind, is_kind_word};
+
+use check_lines::kind_word;
+use nc_findings::Kind;
+
+/// All kinds of findings, in their order.
+pub(crate) const KINDS: &[Kind] = &[
+    Kind::NotNetcdf,
+    Kind::Hdf5,
+    Kind::Hdf5Truncated,
+    Kind::Gzip,
+    Kind::EmptyFile,
+    Kind::UnknownVersion,
+    Kind::HeaderTruncated,
+    Kind::BadTag,
+    Kind::BadCount,
+    Kind::BadName,
+    Kind::NameCharacters,
+    Kind::FloatingType,
+    Kind::BadType,
+    Kind::BadShape,
+    Kind::TwoRecordDims,
+    Kind::TooLarge,
+    Kind::BadOffset,
+    Kind::LargeCount,
+    Kind::Streaming,
+    Kind::UnusedRecords,
+    Kind::EmptyList,
+    Kind::LongName,
+    Kind::DuplicateName,
+    Kind::NotNfc,
+    Kind::Padding,
+    Kind::EmptyAttribute,
+    Kind::TrailingNul,
+    Kind::FillValue,
+    Kind::HighRank,
+    Kind::Vsize,
+    Kind::OddVsize,
+    Kind::LargeVariable,
+    Kind::BeginInHeader,
+    Kind::Overlap,
+    Kind::Unpadded,
+    Kind::Order,
+    Kind::AfterRecords,
+    Kind::RecordPlace,
+    Kind::Gap,
+    Kind::Missing,
+    Kind::EndPadding,
+    Kind::Trailing,
+];
+
+/// Returns true if `word` is the word of a kind of findings, such as `gap`. The clause `all` says that the word of each kind names that kind alone.
+#[tactic(auto, unfolding(crate::specs::KindWords::is_kind_word))]
+pub(crate) fn is_kind_word(word: &str) -> bool
+    ensures word { result ≡ is_kind_word word.now }
+    ensures all { EachWordNamesItsKind }
+{
+    KINDS.iter().any(|kind| word == kind_word(*kind))
+}

@@ -1,6 +1,0 @@
-use Rattle.nccheck.proofs.Prelude.{texts_of, ◌≡◌, drop}
-use Rattle.nccheck.specs.Misuse.{first_no_option}
-use Rattle.nccheck.proofs.misuse.first_no_option.Given as goal
-
-abbrev pub invariant-loop-word : goal.invariant-loop-word
-invariant-loop-word l = first_no_option (texts_of l.words) ≡ first_no_option (texts_of (drop l.word-index l.words))
