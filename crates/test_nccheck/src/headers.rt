@@ -12,7 +12,6 @@ use nc_fields::{Content, Entry, FieldKind, ListFault, Listing, Owner, Place, lis
 use nc_report::check;
 use std::alloc::{AllocError, Global};
 use std::process::Abort;
-use std::test::Fail;
 use test_files::{EMPTY_LISTS, ODD_HEADER, STREAMED_HEADER, cut};
 
 /// What the content of a field has to be, as [`Content`].
@@ -244,15 +243,13 @@ fn is_listing_of(listing: &Listing, row: &Row) -> bool {
     }
 }
 
-/// Each read gives a byte, and a read after the header would fail.
-#[test]
-fn headers_have_their_fields(rt: HostRuntime) -> Result<(), Fail> {
-    for row in HEADERS {
-        let mut source = DripSource::new(row.bytes, 1, FailWhen::From(row.end));
-        let listing = list_fields(rt.alloc(), &mut source, &mut [0xff; 16])?;
-        assert!(rt; is_listing_of(&listing, row), "{}", row.end);
+/// Returns true if the fields of the header are listed, where each read gives a byte, and a read after the header would fail.
+fn has_fields(alloc: Global, row: &Row) -> bool {
+    let mut source = DripSource::new(row.bytes, 1, FailWhen::From(row.end));
+    match list_fields(alloc, &mut source, &mut [0xff; 16]) {
+        Ok(listing) => is_listing_of(&listing, row),
+        Err(_) => false,
     }
-    Ok(())
 }
 
 /// Returns true if the field ends at the offset `at` or before.
@@ -288,29 +285,42 @@ fn is_listing_up_to(listing: &Listing, row: &Row, at: u64) -> bool {
             .all(|(entry, field)| is_entry_up_to(entry, field, at))
 }
 
-/// The source of a header ends at each offset in turn, though it promises all bytes: what doesn't come is taken for no zeros.
-#[test]
-fn headers_that_end_early(rt: HostRuntime) -> Result<(), Fail> {
-    for row in HEADERS {
-        for at in 0..row.end {
-            let mut source = cut(row.bytes, at as usize);
-            let listing = list_fields(rt.alloc(), &mut source, &mut [0; 16])?;
-            assert!(rt; is_listing_up_to(&listing, row, at), "{at}");
-        }
+/// Returns true if the fields of the header are listed up to the offset `at`, if the source ends there.
+fn has_fields_up_to(alloc: Global, row: &Row, at: u64) -> bool {
+    let mut source = cut(row.bytes, at as usize);
+    match list_fields(alloc, &mut source, &mut [0; 16]) {
+        Ok(listing) => is_listing_up_to(&listing, row, at),
+        Err(_) => false,
     }
-    Ok(())
 }
 
-/// A read in mid-header fails, and so does the check. Its faults are displayed: the words stand in a contract, but it allows a call that
-/// errs.
+/// Fails unless the fields of a header are listed, also where the source ends at each offset in turn, though it promises all bytes: what
+/// doesn't come is taken for no zeros.
+fn expect_fields(rt: &impl Abort, alloc: Global, row: &Row) {
+    assert!(rt; has_fields(alloc, row), "{}", row.end);
+    for at in 0..row.end {
+        assert!(rt; has_fields_up_to(alloc, row, at), "{at}");
+    }
+}
+
 #[test]
-fn failing_read(rt: HostRuntime) -> Result<(), Fail> {
+fn headers_have_their_fields(rt: HostRuntime) {
+    for row in HEADERS {
+        expect_fields(&rt, rt.alloc(), row);
+    }
+}
+
+/// A read in mid-header fails, and so does the check.
+#[test]
+fn failing_read(rt: HostRuntime) {
     let mut source = DripSource::new(ODD_HEADER, 1, FailWhen::Read(50));
-    let fails = matches!(
-        check(rt.alloc(), &mut source, &mut [0; 16]),
-        Err(ListFault::ReadFailed)
-    );
-    assert!(rt; fails);
+    let answer = check(rt.alloc(), &mut source, &mut [0; 16]);
+    assert!(rt; matches!(answer, Err(ListFault::ReadFailed)));
+}
+
+/// The words of the faults stand in a contract, but it allows a display that errs.
+#[test]
+fn faults_have_their_words(rt: HostRuntime) -> Result<(), AllocError> {
     assert!(rt; has_words(rt.alloc(), ListFault::OutOfMemory, "out of memory")?);
     assert!(rt; has_words(rt.alloc(), ListFault::ReadFailed, "read failed")?);
     Ok(())

@@ -1,10 +1,11 @@
 //! The JSON objects of what is found in files.
 
+use crate::runs::{lines_with, words_of};
 use check_lines::{FilterOptions, put_json_lines};
 use devices::{MemSource, SliceSink};
 use nc_base::Sequence;
 use nc_fields::ListFault;
-use nc_report::{Severity, check};
+use nc_report::{Report, Severity, check};
 use std::alloc::Global;
 use std::process::Abort;
 use test_files::{file_of, hex_bytes};
@@ -103,13 +104,21 @@ const PATHS: &str = r#"
 c3a92ee282ac2ef09f8c8a|é.€.🌊
 "#;
 
+/// Returns true if a sink with room for so many bytes takes as many of these objects as fit.
+fn are_put(file: &[u8], report: &Report, filter: &FilterOptions, want: &[u8], room: usize) -> bool {
+    let mut space = [0; 1024];
+    let room = room.min(space.len());
+    let mut sink = SliceSink::new(&mut space[..room], 7);
+    let is_whole = put_json_lines(&mut sink, file, report, filter).is_ok();
+    is_whole == (room == want.len()) && want.get(..room) == Some(sink.taken())
+}
+
 /// Fails unless these are the objects of what is found in a file of these bytes, at the level of notes, if its path is `file`. Sinks of
 /// each length take as many bytes of them as fit.
 fn expect_objects(
     rt: &impl Abort,
     alloc: Global,
-    file: &[u8],
-    bytes: &[u8],
+    (file, bytes): (&[u8], &[u8]),
     objects: &str,
 ) -> Result<(), ListFault> {
     let report = check(alloc, &mut MemSource::new(bytes), &mut [0; 64])?;
@@ -117,33 +126,18 @@ fn expect_objects(
         level: Severity::Note,
         ignored: Sequence::new(alloc),
     };
-    let want = objects.as_bytes();
-    for room in 0..=want.len() {
-        let mut space = [0; 1024];
-        assert!(rt; room <= 1024);
-        let mut sink = SliceSink::new(&mut space[..room], 7);
-        let is_whole = put_json_lines(&mut sink, file, &report, &filter).is_ok();
-        assert!(rt;
-            is_whole == (room == want.len()),
-            "{room} bytes of {objects}"
-        );
-        assert!(rt; sink.taken() == &want[..room], "{room} bytes of {objects}");
+    for room in 0..=objects.len() {
+        let is_right = are_put(file, &report, &filter, objects.as_bytes(), room);
+        assert!(rt; is_right, "{room} bytes of {objects}");
     }
     Ok(())
 }
 
 /// Fails unless the file of this block has its objects.
 fn expect_block(rt: &impl Abort, alloc: Global, block: &str) -> Result<(), ListFault> {
-    let (mut bytes, mut objects) = (Vec::new(alloc), String::new(alloc));
-    for line in block.split('\n') {
-        if line.starts_with('{') {
-            objects.push_str(line)?;
-            objects.push('\n')?;
-        } else if !line.is_empty() && !line.starts_with('#') {
-            bytes = file_of(alloc, line)?;
-        }
-    }
-    expect_objects(rt, alloc, b"f", bytes.as_slice(), objects.as_str())
+    let bytes = file_of(alloc, words_of(block, "{"))?;
+    let objects = lines_with(alloc, block, "{")?;
+    expect_objects(rt, alloc, (b"f", bytes.as_slice()), objects.as_str())
 }
 
 #[test]
@@ -154,21 +148,20 @@ fn files_have_their_objects(rt: HostRuntime) -> Result<(), ListFault> {
     Ok(())
 }
 
+/// Fails unless the path of these bytes, in hexadecimal, stands so in a string.
+fn expect_path(rt: &impl Abort, alloc: Global, digits: &str, path: &str) -> Result<(), ListFault> {
+    let file = hex_bytes(alloc, digits)?;
+    let object = format!(in alloc;
+        "{{\"file\":\"{path}\",\"offset\":0,\"severity\":\"error\",\"kind\":\"gzip\",\"path\":\"magic\",\"found\":\"0x1f8b\"}}\n"
+    )?;
+    expect_objects(rt, alloc, (file.as_slice(), b"\x1f\x8b"), object.as_str())
+}
+
 #[test]
 fn paths_stand_in_strings(rt: HostRuntime) -> Result<(), ListFault> {
     for row in PATHS.split('\n') {
         if let Some((digits, path)) = row.split_once('|') {
-            let file = hex_bytes(rt.alloc(), digits)?;
-            let objects = format!(in rt.alloc();
-                "{{\"file\":\"{path}\",\"offset\":0,\"severity\":\"error\",\"kind\":\"gzip\",\"path\":\"magic\",\"found\":\"0x1f8b\"}}\n"
-            )?;
-            expect_objects(
-                &rt,
-                rt.alloc(),
-                file.as_slice(),
-                b"\x1f\x8b",
-                objects.as_str(),
-            )?;
+            expect_path(&rt, rt.alloc(), digits, path)?;
         }
     }
     Ok(())

@@ -15,4 +15,6 @@ mod lines;
 #[cfg(test)]
 mod listings;
 #[cfg(test)]
+mod runs;
+#[cfg(test)]
 mod statuses;

@@ -5,8 +5,8 @@
 
 use crate::faults::{FAULTS, HDF5, NAMES};
 use crate::layouts::{BEGINS, CUT, FIELDS};
-use devices::{CountedRead, MemFile, MemFiles, SliceSink};
-use nccheck::run_with;
+use crate::runs::{ROOM, UNREAD, ends, lines_with, words_of};
+use devices::{MemFile, MemFiles};
 use std::alloc::{AllocError, Global};
 use std::process::Abort;
 use test_files::file_of;
@@ -14,48 +14,41 @@ use test_files::file_of;
 /// Returns true if a run over the file `f` of these bytes writes these lines to standard output, nothing to standard error, and ends with
 /// the status that belongs to them.
 fn has_lines(alloc: Global, bytes: &[u8], lines: &[u8]) -> bool {
-    let mut line_space = [0; 1024];
-    let mut trouble_space = [0; 64];
-    let mut out = SliceSink::new(&mut line_space, 7);
-    let mut err = SliceSink::new(&mut trouble_space, 5);
-    let listed = [MemFile { path: "f", bytes }];
-    let words = ["nccheck", "-l", "note", "f"];
-    let status = run_with(
-        &mut MemFiles::new(&listed),
-        alloc,
-        &words,
-        &mut CountedRead::new(b"".as_slice()),
-        &mut out,
-        &mut err,
+    let status = if lines.is_empty() { 0 } else { 1 };
+    let run = (
+        ["nccheck", "-l", "note", "f"].as_slice(),
+        ROOM,
+        status,
+        lines,
+        b"".as_slice(),
     );
-    let wanted = if lines.is_empty() { 0 } else { 1 };
-    out.taken() == lines && err.taken().is_empty() && status == wanted
+    let files = [MemFile { path: "f", bytes }];
+    ends(alloc, &mut MemFiles::new(&files), &run, UNREAD)
 }
 
 /// Fails unless the file of this block has its lines.
 fn expect_lines(rt: &impl Abort, alloc: Global, block: &str) -> Result<(), AllocError> {
-    let (mut bytes, mut lines) = (Vec::new(alloc), String::new(alloc));
-    for line in block.split('\n') {
-        if line.starts_with("f:") {
-            lines.push_str(line)?;
-            lines.push('\n')?;
-        } else if !line.is_empty() && !line.starts_with('#') {
-            bytes = file_of(alloc, line)?;
-        }
+    let bytes = file_of(alloc, words_of(block, "f:"))?;
+    let lines = lines_with(alloc, block, "f:")?;
+    let is_right = has_lines(alloc, bytes.as_slice(), lines.as_bytes());
+    assert!(rt; is_right, "{block}");
+    Ok(())
+}
+
+/// Fails unless the file of each block of this table has its lines.
+fn expect_table(rt: &impl Abort, alloc: Global, table: &str) -> Result<(), AllocError> {
+    for block in table.split("\n\n") {
+        expect_lines(rt, alloc, block)?;
     }
-    assert!(rt;
-        has_lines(alloc, bytes.as_slice(), lines.as_bytes()),
-        "{block}"
-    );
     Ok(())
 }
 
 #[test]
 fn files_have_their_lines(rt: HostRuntime) -> Result<(), AllocError> {
-    for table in [FAULTS, HDF5, NAMES, FIELDS, BEGINS, CUT] {
-        for block in table.split("\n\n") {
-            expect_lines(&rt, rt.alloc(), block)?;
-        }
-    }
-    Ok(())
+    expect_table(&rt, rt.alloc(), FAULTS)?;
+    expect_table(&rt, rt.alloc(), HDF5)?;
+    expect_table(&rt, rt.alloc(), NAMES)?;
+    expect_table(&rt, rt.alloc(), FIELDS)?;
+    expect_table(&rt, rt.alloc(), BEGINS)?;
+    expect_table(&rt, rt.alloc(), CUT)
 }

@@ -45,7 +45,8 @@ const OTHER_AFTER: Owner = VarAtt { var: 1, att: 1 };
 /// The name of a fill value.
 const FILL: Given = Bytes(b"_FillValue");
 
-static ROWS: &[Row] = &[
+/// Fields by themselves, and those that stand beside each other.
+static FIELDS: &[Row] = &[
     // the longest names, and the highest ranks
     (
         &[
@@ -119,6 +120,10 @@ static ROWS: &[Row] = &[
         None,
         &[(0, Fact::EmptyList)],
     ),
+];
+
+/// Attributes, and fill values of variables.
+static ATTRIBUTES: &[Row] = &[
     // attributes without values, of the types short and char
     (
         &[
@@ -215,6 +220,10 @@ static ROWS: &[Row] = &[
             (3, Fact::Fault(FormatFault::TooLarge)),
         ],
     ),
+];
+
+/// Names that stand more than once.
+static EQUAL_NAMES: &[Row] = &[
     // one name in several lists, twice and three times in one
     (
         &[
@@ -277,23 +286,48 @@ fn has(found: &[Finding], (index, fact): (u64, Fact)) -> bool {
     })
 }
 
-/// The header stands for none: of one that isn't whole, nothing is found about the layout.
-#[test]
-fn listings_have_their_findings(rt: HostRuntime) -> Result<(), AllocError> {
-    for (fields, fault, wanted) in ROWS {
-        let listing = Listing {
-            entries: listed(rt.alloc(), *fields, *fault)?,
-            header: Err(FormatFault::HeaderTruncated),
-            start: Sequence::new(rt.alloc()),
-            end: 0,
-            file_len: 0,
-        };
-        let found = findings_of(rt.alloc(), &listing)?;
-        assert!(rt; found.len() == wanted.len(), "{wanted:?}");
-        assert!(rt;
-            wanted.iter().all(|it| has(found.as_slice(), *it)),
-            "{wanted:?}"
-        );
+/// A listing of these fields. The header stands for none: of one that isn't whole, nothing is found about the layout.
+fn listing_of(
+    alloc: Global,
+    fields: &[Field],
+    fault: Option<FormatFault>,
+) -> Result<Listing, AllocError> {
+    Ok(Listing {
+        entries: listed(alloc, fields, fault)?,
+        header: Err(FormatFault::HeaderTruncated),
+        start: Sequence::new(alloc),
+        end: 0,
+        file_len: 0,
+    })
+}
+
+/// Returns true if these facts are found in the listing, and no others.
+fn are_found(alloc: Global, listing: &Listing, wanted: &[(u64, Fact)]) -> Result<bool, AllocError> {
+    let found = findings_of(alloc, listing)?;
+    Ok(found.len() == wanted.len() && wanted.iter().all(|it| has(found.as_slice(), *it)))
+}
+
+/// Fails unless the findings of each row are found in the listing of its fields.
+fn expect_findings(rt: &impl Abort, alloc: Global, rows: &[Row]) -> Result<(), AllocError> {
+    for (fields, fault, wanted) in rows {
+        let listing = listing_of(alloc, *fields, *fault)?;
+        let is_right = are_found(alloc, &listing, *wanted)?;
+        assert!(rt; is_right, "{wanted:?}");
     }
     Ok(())
+}
+
+#[test]
+fn fields_have_their_findings(rt: HostRuntime) -> Result<(), AllocError> {
+    expect_findings(&rt, rt.alloc(), FIELDS)
+}
+
+#[test]
+fn attributes_have_their_findings(rt: HostRuntime) -> Result<(), AllocError> {
+    expect_findings(&rt, rt.alloc(), ATTRIBUTES)
+}
+
+#[test]
+fn equal_names_are_found(rt: HostRuntime) -> Result<(), AllocError> {
+    expect_findings(&rt, rt.alloc(), EQUAL_NAMES)
 }

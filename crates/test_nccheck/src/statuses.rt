@@ -1,10 +1,8 @@
 //! Runs over several files, with options and trouble.
 
-use devices::{CountedRead, MemFile, MemFiles, OpenFailed, SliceSink};
-use nccheck::run_with;
+use crate::runs::{Input, ROOM, Run, UNREAD, ends};
+use devices::{MemFile, MemFiles, OpenFailed};
 use std::alloc::{AllocError, Global};
-use std::io;
-use std::io::{ErrorKind, Read};
 use std::process::Abort;
 use test_files::{
     CLEAN, COORDINATES, Refusing, TWO_RECORDS, char_bytes, file_of, parts_of, patched,
@@ -29,13 +27,6 @@ const HELP: &[u8] = b"usage: nccheck [-q] [-s] [-j] [-0] [-l level] [-i kinds] [
     -i kinds  ignore findings of these kinds (a comma-separated list)\n  \
     -V        print the version\n  \
     -h        print this help\nnccheck(1), its manual page, lists the kinds.\n";
-
-/// How many bytes standard output takes where it doesn't fail.
-const ROOM: usize = 1024;
-
-/// The words of a command line, how many bytes standard output takes, the status of the run, and what it writes to standard output and to
-/// standard error.
-type Run<'a> = (&'a [&'a str], usize, u8, &'a [u8], &'a [u8]);
 
 /// Runs over a clean file, `clean`, one with an error, `text`, one with a violation, `names`, and one with a note, `records`: blocks with
 /// an empty line between two. A block has the status and the words of a run; after the marks `>` and `!` the lines that it writes to
@@ -261,51 +252,6 @@ static OTHERS: &[Run<'_>] = &[
     ),
 ];
 
-/// Standard input: bytes, three a read, and after them the end, or an error.
-#[derive(Clone, Copy)]
-struct Input<'a> {
-    bytes: &'a [u8],
-    fails: bool,
-}
-
-impl Read for Input<'_> {
-    fn read(&mut self, into: &mut [u8]) -> io::Result<usize> {
-        if self.bytes.is_empty() && self.fails {
-            return Err(ErrorKind::Other.into());
-        }
-        let n = into.len().min(3).min(self.bytes.len());
-        let (first, rest) = self.bytes.split_at(n);
-        into[..n].copy_from_slice(first);
-        self.bytes = rest;
-        Ok(n)
-    }
-}
-
-/// Standard input of a run that doesn't read it.
-const UNREAD: Input<'_> = Input {
-    bytes: b"names\0",
-    fails: false,
-};
-
-/// Returns true if the run over these files ends as wanted.
-fn ends(alloc: Global, files: &[MemFile<'_>], run: &Run<'_>, input: Input<'_>) -> bool {
-    let (words, room, status, lines, trouble) = *run;
-    let mut line_space = [0; ROOM];
-    let mut trouble_space = [0; 512];
-    let mut out = SliceSink::new(&mut line_space[..room.min(ROOM)], 7);
-    let mut err = SliceSink::new(&mut trouble_space, 5);
-    let ended = run_with(
-        &mut MemFiles::new(files),
-        alloc,
-        words,
-        &mut CountedRead::new(input),
-        &mut out,
-        &mut err,
-    );
-    let lines = lines.get(..room).unwrap_or(lines);
-    ended == status && out.taken() == lines && err.taken() == trouble
-}
-
 /// The lines of a block after this mark, each with a line feed.
 fn marked(alloc: Global, block: &str, mark: char) -> Result<String, AllocError> {
     let mut text = String::new(alloc);
@@ -361,7 +307,12 @@ fn ends_so(alloc: Global, files: &[MemFile<'_>], block: &str) -> Result<bool, Al
     let (lines, trouble) = (lines.as_bytes(), trouble.as_bytes());
     let run = (words.as_slice(), room, status, lines, trouble);
     let (bytes, fails) = (bytes.as_slice(), listed.ends_with('%'));
-    Ok(ends(alloc, files, &run, Input { bytes, fails }))
+    Ok(ends(
+        alloc,
+        &mut MemFiles::new(files),
+        &run,
+        Input { bytes, fails },
+    ))
 }
 
 /// Returns true if these words are refused as misused in this way, with the usage.
@@ -383,24 +334,37 @@ fn ends_misused(
         b"".as_slice(),
         trouble.as_bytes(),
     );
-    Ok(ends(alloc, files, &run, UNREAD))
+    Ok(ends(alloc, &mut MemFiles::new(files), &run, UNREAD))
 }
 
-/// Fails unless all runs over these files end as they have to.
-fn all_end_so(rt: &impl Abort, alloc: Global, files: &[MemFile<'_>]) -> Result<(), AllocError> {
-    for table in [RUNS, LISTS] {
-        for block in table.split("\n\n") {
-            assert!(rt; ends_so(alloc, files, block)?, "{block}");
-        }
+/// Fails unless the run of each block of this table ends as the block says.
+fn expect_blocks(
+    rt: &impl Abort,
+    alloc: Global,
+    files: &[MemFile<'_>],
+    table: &str,
+) -> Result<(), AllocError> {
+    for block in table.split("\n\n") {
+        assert!(rt; ends_so(alloc, files, block)?, "{block}");
     }
+    Ok(())
+}
+
+/// Fails unless the words of each row are refused as misused so.
+fn expect_misuses(rt: &impl Abort, alloc: Global, files: &[MemFile<'_>]) -> Result<(), AllocError> {
     for row in MISUSES.split('\n') {
         let (how, words) = row.split_once('|').unwrap_or(("", row));
         assert!(rt; ends_misused(alloc, files, how, words)?, "{row}");
     }
-    for run in OTHERS {
-        assert!(rt; ends(alloc, files, run, UNREAD), "{:?}", run.0);
-    }
     Ok(())
+}
+
+/// Fails unless the other runs end as they have to.
+fn expect_others(rt: &impl Abort, alloc: Global, files: &[MemFile<'_>]) {
+    for run in OTHERS {
+        let is_right = ends(alloc, &mut MemFiles::new(files), run, UNREAD);
+        assert!(rt; is_right, "{:?}", run.0);
+    }
 }
 
 /// A file of these bytes at this path.
@@ -427,32 +391,40 @@ fn runs_end_with_their_status(rt: HostRuntime) -> Result<(), AllocError> {
         file("names\\", names),
         file("records", TWO_RECORDS),
     ];
-    all_end_so(&rt, rt.alloc(), &files)
+    expect_blocks(&rt, rt.alloc(), &files, RUNS)?;
+    expect_blocks(&rt, rt.alloc(), &files, LISTS)?;
+    expect_misuses(&rt, rt.alloc(), &files)?;
+    expect_others(&rt, rt.alloc(), &files);
+    Ok(())
+}
+
+/// Returns true if a run over a file that can't be opened for this reason says so, after it has tried once.
+fn is_told(alloc: Global, why: OpenFailed, line: &[u8]) -> bool {
+    let mut files = Refusing::new(why);
+    let words = ["nccheck", "f"];
+    let run = (words.as_slice(), ROOM, 2, b"".as_slice(), line);
+    ends(alloc, &mut files, &run, UNREAD) && files.opens() == 1
 }
 
 /// A file that can't be opened has a line with the reason that its opener gave.
 #[test]
 fn file_that_is_refused_has_its_reason(rt: HostRuntime) {
-    const ROWS: &[(OpenFailed, &[u8])] = &[
-        (OpenFailed::NotFound, b": no such file\n"),
-        (OpenFailed::PermissionDenied, b": permission denied\n"),
-        (OpenFailed::NotRegular, b": not a regular file\n"),
-        (OpenFailed::Other, b"\n"),
+    static ROWS: &[(OpenFailed, &[u8])] = &[
+        (
+            OpenFailed::NotFound,
+            b"nccheck: f: cannot open: no such file\n",
+        ),
+        (
+            OpenFailed::PermissionDenied,
+            b"nccheck: f: cannot open: permission denied\n",
+        ),
+        (
+            OpenFailed::NotRegular,
+            b"nccheck: f: cannot open: not a regular file\n",
+        ),
+        (OpenFailed::Other, b"nccheck: f: cannot open\n"),
     ];
-    let alloc = rt.alloc();
-    for (why, reason) in ROWS {
-        let (mut line_space, mut trouble_space) = ([0; 16], [0; 64]);
-        let mut out = SliceSink::new(&mut line_space, 7);
-        let mut err = SliceSink::new(&mut trouble_space, 5);
-        let mut files = Refusing::new(*why);
-        let mut input = CountedRead::new(UNREAD);
-        let words = ["nccheck", "f"];
-        let status = run_with(&mut files, alloc, &words, &mut input, &mut out, &mut err);
-        let is_ended = status == 2 && out.taken().is_empty() && files.opens() == 1;
-        let told = err
-            .taken()
-            .strip_prefix(b"nccheck: f: cannot open".as_slice());
-        let is_told = matches!(told, Some(told) if told == *reason);
-        assert!(rt; is_ended && is_told, "{why:?}");
+    for (why, line) in ROWS {
+        assert!(rt; is_told(rt.alloc(), *why, *line), "{why:?}");
     }
 }
