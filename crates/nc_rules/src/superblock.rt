@@ -6,7 +6,7 @@ ghost use Rattle.nc_rules.specs.Superblocks.{cut_before, defined_address, end_ad
 
 use nc_findings::{Fact, Finding, HDF5_SIGNATURE};
 
-/// How many bytes the shortest superblocks have, those of the versions 2 and 3.
+/// How many bytes the shortest superblocks have: those of the versions 2 and 3, with addresses of eight bytes.
 const LEAST_SUPERBLOCK: usize = 48;
 
 /// Returns the finding that an HDF5 file is too short, or `None` if it isn't, if its superblock doesn't tell, or if the file isn't HDF5.

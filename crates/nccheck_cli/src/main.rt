@@ -30,13 +30,13 @@ struct WholeLines<W: Write + Drop> {
 
 impl<W: Write + Drop> Write for WholeLines<W> {
     /// Takes all the bytes. Passes on what it has up to the end of the last line, and holds the rest back if it fits in the buffer. Errs if
-    /// the writer behind it fails.
+    /// the writer that it passes them on to fails.
     fn write(&mut self, buf: &[u8]) -> io::Result<usize> {
         self.lines.write_all(buf)?;
         Ok(buf.len())
     }
 
-    /// Passes on what is held back. Errs if the writer behind it fails.
+    /// Passes on what is held back. Errs if the writer that it passes this on to fails.
     fn flush(&mut self) -> io::Result<()> {
         self.lines.flush()
     }
