@@ -1,9 +1,9 @@
 //! Runs of the program on a file in memory: what the words ask for, and what is answered.
 
 use devices::OpenFailed::{NotFound, NotRegular, Other, PermissionDenied};
-use devices::{MemFile, MemFiles, SliceSink};
+use devices::{MemFile, MemFiles, Opener, SliceSink};
 use ncdump::{DumpOptions, command, options_of, run_with};
-use std::alloc::Global;
+use std::alloc::{AllocError, Global};
 use std::process::Abort;
 use std::test::Fail;
 use test_files::{
@@ -43,22 +43,24 @@ const REFUSED: Run<'static> = Run {
 /// How the program is used.
 const USAGE: &[u8] = b"usage: ncdump [-h] [-c] [-v names] [-n name] [-l width] file\n";
 
-/// Fails unless the run is so.
-fn expect_run(rt: &impl Abort, alloc: Global, run: &Run<'_>) -> Result<(), Fail> {
+/// Returns true if the run over the files of this opener is so.
+fn ends<P: Opener>(alloc: Global, files: &mut P, words: &[&str], run: &Run<'_>) -> bool {
     let (mut text, mut line) = ([0; 512], [0; 128]);
-    assert!(rt; run.room.0 <= 512 && run.room.1 <= 128);
-    let mut out = SliceSink::new(&mut text[..run.room.0], 7);
-    let mut err = SliceSink::new(&mut line[..run.room.1], 5);
+    let mut out = SliceSink::new(&mut text[..run.room.0.min(512)], 7);
+    let mut err = SliceSink::new(&mut line[..run.room.1.min(128)], 5);
+    let status = run_with(files, alloc, words, &mut out, &mut err);
+    status == run.status && out.taken() == run.text && err.taken() == run.line
+}
+
+/// Fails unless the run is so.
+fn expect_run(rt: &impl Abort, alloc: Global, run: &Run<'_>) -> Result<(), AllocError> {
     let files = [MemFile {
         path: "t.nc",
         bytes: run.bytes,
     }];
     let words = parts_of(alloc, run.words, ' ')?;
-    let mut opener = MemFiles::new(&files);
-    let status = run_with(&mut opener, alloc, words.as_slice(), &mut out, &mut err);
-    assert!(rt; status == run.status, "{}", run.words);
-    assert!(rt; is_same(out.taken(), run.text), "the text of {}", run.words);
-    assert!(rt; is_same(err.taken(), run.line), "the line of {}", run.words);
+    let is_right = ends(alloc, &mut MemFiles::new(&files), words.as_slice(), run);
+    assert!(rt; is_right, "{}", run.words);
     Ok(())
 }
 
@@ -112,7 +114,7 @@ static DUMPS: &[(&[u8], &str, &[u8])] = &[
 ];
 
 #[test]
-fn dumps_are_written(rt: HostRuntime) -> Result<(), Fail> {
+fn dumps_are_written(rt: HostRuntime) -> Result<(), AllocError> {
     for (bytes, words, text) in DUMPS {
         expect_text(&rt, rt.alloc(), *bytes, *words, *text)?;
     }
@@ -126,7 +128,7 @@ fn expect_text<'a>(
     bytes: &'a [u8],
     words: &'a str,
     text: &'a [u8],
-) -> Result<(), Fail> {
+) -> Result<(), AllocError> {
     let run = Run {
         bytes,
         words,
@@ -228,7 +230,7 @@ fn expect_line<'a>(
     bytes: &'a [u8],
     words: &'a str,
     line: &'a [u8],
-) -> Result<(), Fail> {
+) -> Result<(), AllocError> {
     let run = Run {
         bytes,
         words,
@@ -239,7 +241,7 @@ fn expect_line<'a>(
 }
 
 #[test]
-fn other_words_have_the_usage(rt: HostRuntime) -> Result<(), Fail> {
+fn other_words_have_the_usage(rt: HostRuntime) -> Result<(), AllocError> {
     for words in USAGE_FAULTS.split('\n') {
         expect_line(&rt, rt.alloc(), ONE_VARIABLE, words, USAGE)?;
     }
@@ -247,13 +249,23 @@ fn other_words_have_the_usage(rt: HostRuntime) -> Result<(), Fail> {
 }
 
 #[test]
-fn faults_have_their_lines(rt: HostRuntime) -> Result<(), Fail> {
+fn faults_have_their_lines(rt: HostRuntime) -> Result<(), AllocError> {
     for (bytes, words, line) in FAULTS {
         expect_line(&rt, rt.alloc(), *bytes, *words, *line)?;
     }
+    Ok(())
+}
+
+#[test]
+fn streams_that_fail(rt: HostRuntime) -> Result<(), AllocError> {
     for run in FAILING {
         expect_run(&rt, rt.alloc(), run)?;
     }
+    Ok(())
+}
+
+#[test]
+fn changed_headers_have_their_lines(rt: HostRuntime) -> Result<(), AllocError> {
     for (at, byte, line) in CHANGED {
         let file = patched(rt.alloc(), ONE_VARIABLE, *at, &[*byte])?;
         expect_line(&rt, rt.alloc(), file.as_slice(), "ncdump t.nc", *line)?;
@@ -262,30 +274,30 @@ fn faults_have_their_lines(rt: HostRuntime) -> Result<(), Fail> {
 }
 
 #[test]
-fn cut_file_has_its_line(rt: HostRuntime) -> Result<(), Fail> {
-    let bytes = ONE_VARIABLE.get(..83).ok_or("too few bytes")?;
+fn cut_file_has_its_line(rt: HostRuntime) -> Result<(), AllocError> {
+    let bytes = &ONE_VARIABLE[..83];
     expect_run(&rt, rt.alloc(), &Run { bytes, ..TRUNCATED })
 }
+
+/// The line of a file that can't be opened.
+const UNOPENED: Run<'static> = Run {
+    line: b"ncdump: t.nc: cannot open\n",
+    ..REFUSED
+};
 
 /// A file that can't be opened has its line, whatever the reason, and the opener is asked for it once.
 #[test]
 fn file_that_is_refused_has_its_line(rt: HostRuntime) {
     for why in [NotFound, PermissionDenied, NotRegular, Other] {
-        let (mut text, mut line) = ([0; 16], [0; 64]);
-        let mut out = SliceSink::new(&mut text, 7);
-        let mut err = SliceSink::new(&mut line, 5);
         let mut files = Refusing::new(why);
-        let words = ["ncdump", "t.nc"];
-        let status = run_with(&mut files, rt.alloc(), &words, &mut out, &mut err);
-        let is_ended = status == 1 && out.taken().is_empty() && files.opens() == 1;
-        let is_told = is_same(err.taken(), b"ncdump: t.nc: cannot open\n");
-        assert!(rt; is_ended && is_told, "{why:?}");
+        let is_told = ends(rt.alloc(), &mut files, &["ncdump", "t.nc"], &UNOPENED);
+        assert!(rt; is_told && files.opens() == 1, "{why:?}");
     }
 }
 
 /// With ample memory no command line is answered with out of memory, however many words or names of variables it has.
 #[test]
-fn long_command_lines(rt: HostRuntime) -> Result<(), Fail> {
+fn long_command_lines(rt: HostRuntime) -> Result<(), AllocError> {
     let mut files = String::from_str(rt.alloc(), "ncdump t.nc")?;
     let mut names = String::from_str(rt.alloc(), "ncdump t.nc -nother -vv")?;
     for _ in 0..1100 {

@@ -186,11 +186,27 @@ pub fn is_dumped_in_steps(
     true
 }
 
-/// Fails unless the dump of the row is as it says, through buffers of several lengths. If it ends with an error, it has to be the same from
-/// a source that ends there but promises all of the file.
+/// Returns true if the bytes of the row, or the first `len` of them, are dumped so through a buffer of `buffer_len` bytes. If the dump ends
+/// with an error, it has to be the same from a source that ends there but promises all of the file.
+fn is_dumped_twice(
+    rt: &impl Abort,
+    alloc: Global,
+    row: &DumpRow<'_>,
+    buffer_len: usize,
+    want: &Want<'_>,
+) -> bool {
+    let len = row.len.min(row.bytes.len());
+    let given = (&row.bytes[..len], row.fail);
+    let buffer = (buffer_len, [1, 3, 7, 4096].as_slice());
+    if !is_dumped_in_steps(rt, alloc, given, buffer, want) {
+        return false;
+    }
+    let ends_early = !row.fault.is_empty() && len < row.bytes.len();
+    !ends_early || is_dumped(rt, alloc, &mut cut(row.bytes, len), buffer_len, want)
+}
+
+/// Fails unless the dump of the row is as it says, through buffers of several lengths.
 pub fn expect_dump(rt: &impl Abort, alloc: Global, row: &DumpRow<'_>) -> Result<(), AllocError> {
-    let bytes = &row.bytes[..row.len.min(row.bytes.len())];
-    let (about, len) = (row.about, bytes.len());
     let text = text_of(alloc, row)?;
     let options = options_of(alloc, row)?;
     let want = Want {
@@ -199,14 +215,8 @@ pub fn expect_dump(rt: &impl Abort, alloc: Global, row: &DumpRow<'_>) -> Result<
         text: text.as_slice(),
     };
     for buffer_len in [16, 17, 4096] {
-        let buffer = (buffer_len, [1, 3, 7, 4096].as_slice());
-        let is_right = is_dumped_in_steps(rt, alloc, (bytes, row.fail), buffer, &want);
-        assert!(rt; is_right, "{about}, {buffer_len} bytes, {len}");
-        if !row.fault.is_empty() && len < row.bytes.len() {
-            let mut source = cut(row.bytes, len);
-            let is_right = is_dumped(rt, alloc, &mut source, buffer_len, &want);
-            assert!(rt; is_right, "{about}, cut at {len}");
-        }
+        let is_right = is_dumped_twice(rt, alloc, row, buffer_len, &want);
+        assert!(rt; is_right, "{}, {buffer_len} bytes", row.about);
     }
     Ok(())
 }

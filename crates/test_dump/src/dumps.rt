@@ -8,9 +8,11 @@ use crate::dump_rows::{
 use devices::{FailWhen, FileSource, Source};
 use std::alloc::{AllocError, Global};
 use std::fs;
+use std::fs::File;
 use std::process::Abort;
+use std::rt::Files;
 use std::test::Fail;
-use test_files::{char_bytes, file_of, parts_of};
+use test_files::{cells_of, char_bytes, file_of};
 
 /// Files and their dumps, with all values and in lines of 80 bytes. A row of this text and of those below has the words of a file
 /// (`file_of`), what is said of the dump (`say`), the words of the fault that it ends with, and its text, with `^` for a line feed and `~`
@@ -114,13 +116,11 @@ fn say<'a>(row: &mut DumpRow<'a>, word: &'a str) {
 
 /// Fails unless the dump is as this row of a text says.
 fn expect_row(rt: &impl Abort, alloc: Global, row: &str) -> Result<(), AllocError> {
-    let cells = parts_of(alloc, row, '|')?;
-    let [words, said, fault, text] = cells.as_slice() else {
-        panic!(rt; "{row}");
-    };
-    let (file, text) = (file_of(alloc, *words)?, char_bytes(alloc, *text)?);
+    let [words, said, fault, text]: [&str; 4] = cells_of(row);
+    let file = file_of(alloc, words)?;
+    let text = char_bytes(alloc, text)?;
     let (bytes, text) = (file.as_slice(), text.as_slice());
-    expect_said(rt, alloc, row, bytes, *said, *fault, text)
+    expect_said(rt, alloc, row, bytes, said, fault, text)
 }
 
 /// Fails unless these bytes are dumped as these words say, with this fault and this text.
@@ -146,17 +146,28 @@ fn expect_said<'a>(
     expect_dump(rt, alloc, &dump)
 }
 
+/// Fails unless the dumps are as the rows of a text say.
+fn expect_table(rt: &impl Abort, alloc: Global, table: &str) -> Result<(), AllocError> {
+    for row in table.split('\n') {
+        if !row.is_empty() && !row.starts_with('#') {
+            expect_row(rt, alloc, row)?;
+        }
+    }
+    Ok(())
+}
+
 #[test]
 fn dumps_of_files(rt: HostRuntime) -> Result<(), AllocError> {
+    expect_table(&rt, rt.alloc(), WHOLE_FILES)?;
+    expect_table(&rt, rt.alloc(), SELECTIONS)?;
+    expect_table(&rt, rt.alloc(), VALUES)?;
+    expect_table(&rt, rt.alloc(), CHANGED)
+}
+
+#[test]
+fn dumps_that_tests_share(rt: HostRuntime) -> Result<(), AllocError> {
     for row in SHARED {
         expect_dump(&rt, rt.alloc(), row)?;
-    }
-    for table in [WHOLE_FILES, SELECTIONS, VALUES, CHANGED] {
-        for row in table.split('\n') {
-            if !row.is_empty() && !row.starts_with('#') {
-                expect_row(&rt, rt.alloc(), row)?;
-            }
-        }
     }
     Ok(())
 }
@@ -259,28 +270,20 @@ fn expect_cut(
     from: usize,
     line: &str,
 ) -> Result<usize, AllocError> {
-    let cells = parts_of(alloc, line, '|')?;
-    let [to, fault, text] = cells.as_slice() else {
-        panic!(rt; "{line}");
-    };
-    let (to, text) = (to.parse().unwrap_or(0usize), char_bytes(alloc, *text)?);
-    let cut = DumpRow {
-        fault: *fault,
-        text: text.as_slice(),
-        ..row
-    };
-    expect_lens(rt, alloc, cut, (from, to))?;
+    let [to, fault, text]: [&str; 3] = cells_of(line);
+    let to = to.parse().unwrap_or(0usize);
+    let text = char_bytes(alloc, text)?;
+    let text = text.as_slice();
+    expect_lens(rt, alloc, DumpRow { fault, text, ..row }, (from, to))?;
     Ok(to.saturating_add(1))
 }
 
 /// Fails unless prefixes of the file of this block are dumped as it says.
 fn expect_cuts(rt: &impl Abort, alloc: Global, block: &str) -> Result<(), AllocError> {
     let (first, cuts) = block.split_once('\n').unwrap_or((block, ""));
-    let cells = parts_of(alloc, first, '|')?;
-    let [name, header_len, head] = cells.as_slice() else {
-        panic!(rt; "{first}");
-    };
-    let (file, head) = (file_of(alloc, *name)?, char_bytes(alloc, *head)?);
+    let [name, header_len, head]: [&str; 3] = cells_of(first);
+    let file = file_of(alloc, name)?;
+    let head = char_bytes(alloc, head)?;
     let (bytes, head) = (file.as_slice(), head.as_slice());
     let from = header_len.parse().unwrap_or(0);
     expect_cut_header(rt, alloc, bytes, from)?;
@@ -335,12 +338,22 @@ fn is_dumped_as<S: Source>(
     Ok(is_dumped(rt, alloc, source, 16, &want))
 }
 
+/// A file of these bytes at the path, which is open and removed.
+fn removed_file<R: Files<File = File>>(
+    rt: &R,
+    path: &str,
+    bytes: &[u8],
+) -> Result<FileSource, Fail> {
+    fs::write(rt, path, bytes)?;
+    let source = FileSource::open(rt, path)?;
+    fs::remove_file(rt, path)?;
+    Ok(source)
+}
+
 #[test]
 fn dump_of_a_file_of_the_system(rt: HostRuntime) -> Result<(), Fail> {
     let path = "dumped_shorts.nc";
-    fs::write(&rt, path, ONE_VARIABLE.bytes)?;
-    let mut source = FileSource::open(&rt, path)?;
-    fs::remove_file(&rt, path)?;
+    let mut source = removed_file(&rt, path, ONE_VARIABLE.bytes)?;
     assert!(rt; is_dumped_as(&rt, rt.alloc(), &mut source, &ONE_VARIABLE)?);
     assert!(rt; FileSource::open(&rt, path).is_err());
     Ok(())

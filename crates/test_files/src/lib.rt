@@ -34,4 +34,4 @@ pub use values::{
     COORDINATES, FILL_OF_BYTES, FORTY_SHORTS, LONG_LINE, LOW_BYTE, ONE_VARIABLE, ONE_VARIABLE_CDF2,
     ONE_VARIABLE_CDF5, SHORT_LINE, UNSIGNED_FILLS,
 };
-pub use words::parts_of;
+pub use words::{cells_of, parts_of};

@@ -2,7 +2,16 @@
 
 use std::alloc::{AllocError, Global};
 
-/// The parts of a text, which has this mark between two: the words of a command line, or the cells of a row.
+/// The first cells of a row, which has a bar between two. Where it has fewer than these, the last ones are empty.
+pub fn cells_of<const N: usize>(row: &str) -> [&str; N] {
+    let mut cells = [""; N];
+    for (cell, part) in cells.iter_mut().zip(row.split('|')) {
+        *cell = part;
+    }
+    cells
+}
+
+/// The parts of a text, which has this mark between two, such as the words of a command line.
 pub fn parts_of<'a>(alloc: Global, text: &'a str, mark: char) -> Result<Vec<&'a str>, AllocError> {
     let mut parts = Vec::new(alloc);
     for part in text.split(mark) {

@@ -7,7 +7,6 @@ use nc_base::Header;
 use nc_base::NcType::{self, Byte, Char, Int, Int64, Short, Ubyte, Uint, Uint64, Ushort};
 use std::alloc::{AllocError, Global};
 use std::process::Abort;
-use std::test::Fail;
 use test_files::char_bytes;
 
 #[test]
@@ -39,8 +38,8 @@ fn expect_head(rt: &impl Abort, alloc: Global, header: &Header, want: &[u8]) {
     assert!(rt; is_put && sink.as_slice() == want);
 }
 
-#[test]
-fn dimensions_and_variables_are_declared(rt: HostRuntime) -> Result<(), Fail> {
+/// A header of two dimensions and two variables, the second of them with attributes.
+fn declared(alloc: Global) -> Result<Header, AllocError> {
     const ROW: HeaderRow<'static> = HeaderRow {
         dims: &[("t", 0), ("x", 3)],
         vars: &[("s", &[], NcType::Int64, 0)],
@@ -50,11 +49,17 @@ fn dimensions_and_variables_are_declared(rt: HostRuntime) -> Result<(), Fail> {
         ("units", NcType::Char, "m"),
         ("valid_range", NcType::Short, "\u{ff}\u{fe}\x01\x00"),
     ];
+    let mut header = header_of(alloc, &ROW)?;
+    let noted = ("2 v", [0, 1].as_slice(), NcType::Ushort, 0);
+    header.vars.push(var_of(alloc, noted, ATTS)?)?;
+    Ok(header)
+}
+
+#[test]
+fn dimensions_and_variables_are_declared(rt: HostRuntime) -> Result<(), AllocError> {
     const TEXT: &[u8] =
         b"netcdf t {\ndimensions:\n\tt = UNLIMITED ; // (0 currently)\n\tx = 3 ;\nvariables:\n\tint64 s ;\n\tushort \\2\\ v(t, x) ;\n\t\t\\2\\ v:units = \"m\" ;\n\t\t\\2\\ v:valid_range = -2s, 256s ;\n";
-    let mut header = header_of(rt.alloc(), &ROW)?;
-    let noted = var_of(rt.alloc(), ("2 v", &[0, 1], NcType::Ushort, 0), ATTS)?;
-    header.vars.push(noted)?;
+    let header = declared(rt.alloc())?;
     expect_head(&rt, rt.alloc(), &header, TEXT);
     Ok(())
 }
@@ -67,7 +72,7 @@ fn note_text(alloc: Global, want: &str) -> Result<Vec<u8>, AllocError> {
 }
 
 #[test]
-fn values_of_attributes_are_listed(rt: HostRuntime) -> Result<(), Fail> {
+fn values_of_attributes_are_listed(rt: HostRuntime) -> Result<(), AllocError> {
     static ROWS: &[(NcType, &str, &str)] = &[
         (Char, "a\nb\n", "\"a\\n\",\n\t\t\t\"b\\n\""),
         (

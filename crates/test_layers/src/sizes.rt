@@ -2,11 +2,13 @@
 
 use crate::header_rows::{EMPTY, HeaderRow, NamedLength, NamedShape, dims_of, header_of};
 use nc_base::{Header, NcType, NumRecs, extent_end, rec_size, records, slab_len};
+use std::alloc::{AllocError, Global};
 use std::process::Abort;
-use std::test::Fail;
 
 #[test]
-fn slabs_leave_out_the_record_dimension_up_to_their_limit(rt: HostRuntime) -> Result<(), Fail> {
+fn slabs_leave_out_the_record_dimension_up_to_their_limit(
+    rt: HostRuntime,
+) -> Result<(), AllocError> {
     // short lengths, and lengths near the limit of slabs and after it
     static DIMS: &[NamedLength<'static>] = &[
         ("", 0),
@@ -75,39 +77,55 @@ fn expect_ends(rt: &impl Abort, header: &Header, count: u64, ends: &[u128]) {
     }
 }
 
-#[test]
-fn records_are_counted_from_the_least_begin(rt: HostRuntime) -> Result<(), Fail> {
-    for (vars, size, len, count, ends) in RECORDS {
-        let row = HeaderRow {
-            vars: *vars,
-            ..STREAMING
-        };
-        let header = header_of(rt.alloc(), &row)?;
-        assert!(rt; rec_size(&header) == Some(*size), "{vars:?}");
-        assert!(rt; records(&header, *len) == *count, "{vars:?}");
-        expect_ends(&rt, &header, *count, *ends);
-    }
+/// Fails unless a header of these variables has records of `size` bytes, and `count` of them in a file of `len` bytes, and the values of
+/// each variable end there.
+fn expect_records(
+    rt: &impl Abort,
+    alloc: Global,
+    vars: &[NamedShape<'_>],
+    (size, len, count): (u64, u64, u64),
+    ends: &[u128],
+) -> Result<(), AllocError> {
+    let header = header_of(alloc, &HeaderRow { vars, ..STREAMING })?;
+    let is_right = rec_size(&header) == Some(size) && records(&header, len) == count;
+    assert!(rt; is_right, "{size} bytes, {count} records");
+    expect_ends(rt, &header, count, ends);
     Ok(())
 }
 
 #[test]
-fn sound_headers_have_known_dimensions_and_records_first(rt: HostRuntime) -> Result<(), Fail> {
-    const ONE_RECORD_DIM: &[NamedLength<'static>] = &[("", 0), ("", 3)];
-    const TWO_RECORD_DIMS: &[NamedLength<'static>] = &[("", 0), ("", 0)];
+fn records_are_counted_from_the_least_begin(rt: HostRuntime) -> Result<(), AllocError> {
+    for (vars, size, len, count, ends) in RECORDS {
+        expect_records(&rt, rt.alloc(), *vars, (*size, *len, *count), *ends)?;
+    }
+    Ok(())
+}
+
+/// Returns true if a header of these dimensions is sound, with a variable over those with these ids.
+fn is_sound(alloc: Global, dims: &[NamedLength<'_>], dimids: &[u64]) -> Result<bool, AllocError> {
+    let vars = [("v", dimids, NcType::Ubyte, 0)];
+    let row = HeaderRow {
+        dims,
+        vars: &vars,
+        ..EMPTY
+    };
+    Ok(header_of(alloc, &row)?.sound())
+}
+
+#[test]
+fn sound_headers_have_known_dimensions_and_records_first(
+    rt: HostRuntime,
+) -> Result<(), AllocError> {
     static ROWS: &[(&[NamedLength<'static>], &[u64], bool)] = &[
-        (ONE_RECORD_DIM, &[0, 1], true),
-        (ONE_RECORD_DIM, &[1, 0], false),
-        (ONE_RECORD_DIM, &[2], false),
-        (TWO_RECORD_DIMS, &[0], false),
+        (&[("", 0), ("", 3)], &[0, 1], true),
+        (&[("", 0), ("", 3)], &[1, 0], false),
+        (&[("", 0), ("", 3)], &[2], false),
+        // two record dimensions
+        (&[("", 0), ("", 0)], &[0], false),
     ];
-    for (dims, dimids, is_sound) in ROWS {
-        let row = HeaderRow {
-            dims: *dims,
-            vars: &[("v", *dimids, NcType::Ubyte, 0)],
-            ..EMPTY
-        };
-        let header = header_of(rt.alloc(), &row)?;
-        assert!(rt; header.sound() == *is_sound, "{dims:?} {dimids:?}");
+    for (dims, dimids, want) in ROWS {
+        let found = is_sound(rt.alloc(), *dims, *dimids)?;
+        assert!(rt; found == *want, "{dimids:?}");
     }
     Ok(())
 }

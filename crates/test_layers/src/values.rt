@@ -1,14 +1,13 @@
 //! Texts of values: numbers and characters, fill values, and where lines are broken. Each is printed for several cuttings into calls, and
 //! into sinks that fail after each number of bytes.
 
-use crate::header_rows::{sequence, var_of};
+use crate::header_rows::sequence;
 use cdl_print::ValuePrinter;
 use devices::{Sink, SliceSink, WriteFailed};
 use nc_base::{Att, Dim, Header, NcType, NumRecs, Sequence, Var, Version};
 use std::alloc::{AllocError, Global};
 use std::process::Abort;
-use std::test::Fail;
-use test_files::{char_bytes, parts_of};
+use test_files::{cells_of, char_bytes};
 
 /// A variable over dimensions of these lengths (0 stands for the record dimension, which has two records), its fill value, if it has one
 /// of its own, the width of its lines, its values and the text that they are to have. Each character of the name and of the text stands for
@@ -83,37 +82,59 @@ fn packed(alloc: Global, ty: NcType, values: &[i128]) -> Result<Vec<u8>, AllocEr
     Ok(bytes)
 }
 
-/// The variable of a row, over as many dimensions as there are lengths.
-fn var_of_row(alloc: Global, row: &Row<'_>) -> Result<Var, AllocError> {
-    let mut var = var_of(alloc, (row.name, &[], row.ty, 0), &[])?;
-    for (id, _) in row.lens.split_whitespace().enumerate() {
-        var.dimids.push(id as u64)?;
-    }
+/// The fill value of a row, as the attribute of its variable, if it has one of its own.
+fn atts_of_row(alloc: Global, row: &Row<'_>) -> Result<Sequence<Att>, AllocError> {
+    let mut atts = Sequence::new(alloc);
     if let Some(fill) = row.fill {
-        var.atts.push(Att {
+        atts.push(Att {
             name: sequence(alloc, "_FillValue")?,
             ty: row.ty,
             vals: Sequence::from_vec(packed(alloc, row.ty, &[fill])?),
         })?;
     }
-    Ok(var)
+    Ok(atts)
 }
 
-/// A header with the variable of a row alone.
-fn header_of_row(alloc: Global, row: &Row<'_>) -> Result<Header, AllocError> {
+/// The ids of as many dimensions as there are lengths.
+fn ids_of(alloc: Global, lens: &str) -> Result<Sequence<u64>, AllocError> {
+    let mut ids = Sequence::new(alloc);
+    for (id, _) in lens.split_whitespace().enumerate() {
+        ids.push(id as u64)?;
+    }
+    Ok(ids)
+}
+
+/// The dimensions of these lengths.
+fn dims_of_lens(alloc: Global, lens: &str) -> Result<Sequence<Dim>, AllocError> {
     let mut dims = Sequence::new(alloc);
-    for len in row.lens.split_whitespace() {
+    for len in lens.split_whitespace() {
         let (name, len) = (sequence(alloc, "d")?, len.parse().unwrap_or(0));
         dims.push(Dim { name, len })?;
     }
+    Ok(dims)
+}
+
+/// The variable of a row, alone.
+fn vars_of_row(alloc: Global, row: &Row<'_>) -> Result<Sequence<Var>, AllocError> {
     let mut vars = Sequence::new(alloc);
-    vars.push(var_of_row(alloc, row)?)?;
+    vars.push(Var {
+        name: sequence(alloc, row.name)?,
+        dimids: ids_of(alloc, row.lens)?,
+        atts: atts_of_row(alloc, row)?,
+        ty: row.ty,
+        begin_at: 0,
+    })?;
+    Ok(vars)
+}
+
+/// A header with the variable of a row.
+fn header_of_row(alloc: Global, row: &Row<'_>) -> Result<Header, AllocError> {
     Ok(Header {
         version: Version::Cdf5,
         numrecs: NumRecs::Known(2),
-        dims,
+        dims: dims_of_lens(alloc, row.lens)?,
         gatts: Sequence::new(alloc),
-        vars,
+        vars: vars_of_row(alloc, row)?,
     })
 }
 
@@ -158,15 +179,27 @@ fn is_shown(
 }
 
 /// Fails unless the values of the row have its text, in pieces of `count` values, into sinks of each length up to that of the text.
-fn expect_pieces(rt: &impl Abort, alloc: Global, row: &Row<'_>, count: usize) -> Result<(), Fail> {
+fn expect_pieces(
+    rt: &impl Abort,
+    header: &Header,
+    row: &Row<'_>,
+    texts: (&[u8], &[u8]),
+    count: usize,
+) {
+    let piece_len = (row.ty.size() as usize).saturating_mul(count);
+    for room in 0..=texts.1.len() {
+        let is_right = is_shown(rt, header, row.width, texts, piece_len, room);
+        assert!(rt; is_right, "{room} bytes of {}", row.text);
+    }
+}
+
+/// Fails unless the values of the row have its text, in pieces of one, two and three values, and of all.
+fn expect_values(rt: &impl Abort, alloc: Global, row: &Row<'_>) -> Result<(), AllocError> {
     let header = header_of_row(alloc, row)?;
     let bytes = packed(alloc, row.ty, row.values)?;
     let text = char_bytes(alloc, row.text)?;
-    let texts = (bytes.as_slice(), text.as_slice());
-    let piece_len = (row.ty.size() as usize).saturating_mul(count);
-    for room in 0..=text.len() {
-        let is_right = is_shown(rt, &header, row.width, texts, piece_len, room);
-        assert!(rt; is_right, "{room} bytes of {}", row.text);
+    for count in [1, 2, 3, 64] {
+        expect_pieces(rt, &header, row, (bytes.as_slice(), text.as_slice()), count);
     }
     Ok(())
 }
@@ -180,32 +213,36 @@ fn numbers_of(alloc: Global, text: &str) -> Result<Vec<i128>, AllocError> {
     Ok(numbers)
 }
 
-/// Fails unless the values of a row of a text have its text in lines of `width` bytes, in pieces of one, two and three values, and of all.
-fn expect_text(rt: &impl Abort, alloc: Global, line: &str, width: usize) -> Result<(), Fail> {
-    let cells = parts_of(alloc, line, '|')?;
-    let [name, word, lens, fill, values, text] = cells.as_slice() else {
-        panic!(rt; "{line}");
-    };
+/// The type of this word, or `byte` if it is none.
+fn type_of(word: &str) -> NcType {
     let mut types = NcType::ALL.iter().copied();
-    let ty = types.find(|ty| ty.word() == word.as_bytes());
-    let values = numbers_of(alloc, *values)?;
+    let found = types.find(|ty| ty.word() == word.as_bytes());
+    found.unwrap_or(NcType::Byte)
+}
+
+/// Fails unless the values of a row of a text have its text in lines of `width` bytes.
+fn expect_text(rt: &impl Abort, alloc: Global, line: &str, width: usize) -> Result<(), AllocError> {
+    let [name, word, lens, fill, values, text]: [&str; 6] = cells_of(line);
+    let values = numbers_of(alloc, values)?;
     let row = Row {
-        name: *name,
-        ty: ty.ok_or("no such type")?,
-        lens: *lens,
+        name,
+        ty: type_of(word),
+        lens,
         fill: fill.parse().ok(),
         width,
         values: values.as_slice(),
-        text: *text,
+        text,
     };
-    for count in [1, 2, 3, 64] {
-        expect_pieces(rt, alloc, &row, count)?;
-    }
-    Ok(())
+    expect_values(rt, alloc, &row)
 }
 
 /// Fails unless each row of a text is so.
-fn expect_table(rt: &impl Abort, alloc: Global, table: &str, width: usize) -> Result<(), Fail> {
+fn expect_table(
+    rt: &impl Abort,
+    alloc: Global,
+    table: &str,
+    width: usize,
+) -> Result<(), AllocError> {
     for line in table.split('\n') {
         if !line.is_empty() && !line.starts_with('#') {
             expect_text(rt, alloc, line, width)?;
@@ -215,12 +252,12 @@ fn expect_table(rt: &impl Abort, alloc: Global, table: &str, width: usize) -> Re
 }
 
 #[test]
-fn values_have_their_text(rt: HostRuntime) -> Result<(), Fail> {
+fn values_have_their_text(rt: HostRuntime) -> Result<(), AllocError> {
     expect_table(&rt, rt.alloc(), NUMBERS, 80)?;
     expect_table(&rt, rt.alloc(), ROWS, 20)
 }
 
 #[test]
-fn lines_are_broken(rt: HostRuntime) -> Result<(), Fail> {
+fn lines_are_broken(rt: HostRuntime) -> Result<(), AllocError> {
     expect_table(&rt, rt.alloc(), LINES, 20)
 }

@@ -2,14 +2,13 @@
 
 use devices::{DripSource, FailWhen, MemSource, Source};
 use nc_base::{Header, records};
-use nc_file::read_header;
+use nc_file::{HeadFault, read_header};
 use nc_walk::{Walk, WalkFault, laws};
 use std::alloc::Global;
 use std::process::Abort;
-use std::test::Fail;
 use test_files::{
     FORTY_SHORTS, ONE_VARIABLE, PADDED_RECORDS, RECORD_BYTES, RECORDS_OFF_BOUNDARY,
-    THREE_VARIABLES, cut, file_of, hex_bytes, parts_of,
+    THREE_VARIABLES, cells_of, cut, file_of, hex_bytes,
 };
 
 /// What a walk over a variable, at index `v`, is to give: these values, in chunks that fill the buffer as far as there are values, and then
@@ -21,28 +20,25 @@ struct Want<'a> {
     end: Result<(), WalkFault>,
 }
 
-/// Fails unless a walk through a buffer of `buffer_len` bytes, over so many records, is as wanted. It ends so twice.
-fn expect_walk<S: Source>(
+/// Returns true if a walk through a buffer of `buffer_len` bytes, over so many records, is as wanted. It has to end so twice.
+fn is_walked<S: Source>(
     rt: &impl Abort,
     header: &Header,
     source: &mut S,
     (count, buffer_len): (u64, usize),
     want: &Want<'_>,
-) {
+) -> bool {
     let mut space = [0; 40];
     assert!(rt; 16 <= buffer_len && buffer_len <= 40);
     assert!(rt; header.sound() && want.v < header.vars.len());
     let size = header.vars.as_slice()[want.v].ty.size() as usize;
     let mut walk = Walk::new(header, want.v, count, &mut space[..buffer_len]);
     for chunk in want.values.chunks(buffer_len - buffer_len % size) {
-        let found = walk.next(source);
-        assert!(rt;
-            matches!(found, Ok(Some(bytes)) if bytes == chunk),
-            "{chunk:?}"
-        );
+        if !matches!(walk.next(source), Ok(Some(bytes)) if bytes == chunk) {
+            return false;
+        }
     }
-    assert!(rt; has_ended(&mut walk, source, want.end), "{:?}", want.end);
-    assert!(rt; has_ended(&mut walk, source, want.end), "{:?}", want.end);
+    has_ended(&mut walk, source, want.end) && has_ended(&mut walk, source, want.end)
 }
 
 /// Returns true if no chunk comes, and the walk has ended so.
@@ -67,17 +63,21 @@ fn expect_walks(
     alloc: Global,
     (file, len): (&[u8], usize),
     want: &Want<'_>,
-) -> Result<(), Fail> {
+) -> Result<(), HeadFault> {
     let header = read_header(alloc, &mut MemSource::new(file), &mut [0; 16])?;
     assert!(rt; len <= file.len());
     let count = records_in(rt, &header, len);
     for buffer_len in 16..=40 {
         for step in 1..=9 {
             let mut source = DripSource::new(&file[..len], step, FailWhen::Never);
-            expect_walk(rt, &header, &mut source, (count, buffer_len), want);
-            assert!(rt; source.handed() == want.values.len() as u128);
+            let is_right = is_walked(rt, &header, &mut source, (count, buffer_len), want);
+            assert!(rt;
+                is_right && source.handed() == want.values.len() as u128,
+                "{len}"
+            );
         }
-        expect_walk(rt, &header, &mut cut(file, len), (count, buffer_len), want);
+        let is_right = is_walked(rt, &header, &mut cut(file, len), (count, buffer_len), want);
+        assert!(rt; is_right, "cut at {len}");
     }
     Ok(())
 }
@@ -101,25 +101,24 @@ ONE_VARIABLE_CDF2 76=7fffffffffffffff|92|0||0
 ";
 
 /// Fails unless the walk of a row is so.
-fn expect_row(rt: &impl Abort, alloc: Global, row: &str) -> Result<(), Fail> {
-    let cells = parts_of(alloc, row, '|')?;
-    let [words, len, v, values, missing] = cells.as_slice() else {
-        panic!(rt; "{row}");
-    };
-    let (file, values) = (file_of(alloc, *words)?, hex_bytes(alloc, *values)?);
+fn expect_row(rt: &impl Abort, alloc: Global, row: &str) -> Result<(), HeadFault> {
+    let [words, len, v, values, missing]: [&str; 5] = cells_of(row);
+    let file = file_of(alloc, words)?;
+    let values = hex_bytes(alloc, values)?;
     let want = Want {
-        v: v.parse()?,
+        v: v.parse().unwrap_or(0),
         values: values.as_slice(),
         end: match missing.parse() {
             Ok(value) => Err(WalkFault::DataTruncated(value)),
             Err(_) => Ok(()),
         },
     };
-    expect_walks(rt, alloc, (file.as_slice(), len.parse()?), &want)
+    let len = len.parse().unwrap_or(0);
+    expect_walks(rt, alloc, (file.as_slice(), len), &want)
 }
 
 #[test]
-fn values_of_whole_files(rt: HostRuntime) -> Result<(), Fail> {
+fn values_of_whole_files(rt: HostRuntime) -> Result<(), HeadFault> {
     // the law on the bytes of values is called for its contract alone
     laws::values_are_read();
     for row in WALKED.split('\n') {
@@ -176,7 +175,7 @@ fn wanted_of(row: &Strided, len: usize) -> Want<'static> {
 }
 
 #[test]
-fn values_cut_at_each_byte(rt: HostRuntime) -> Result<(), Fail> {
+fn values_cut_at_each_byte(rt: HostRuntime) -> Result<(), HeadFault> {
     for row in STRIDED {
         let (file, [header_len, ..], _) = *row;
         for len in header_len..=file.len() {
@@ -203,20 +202,30 @@ static FAILING: &[(&[u8], FailWhen, usize, &[u8])] = &[
     ),
 ];
 
+/// Fails unless a walk over a variable of the file ends with `ReadFailed` after these values, in reads of at most 1 to 9 bytes.
+fn expect_failure(
+    rt: &impl Abort,
+    alloc: Global,
+    file: &[u8],
+    fail: FailWhen,
+    (v, values): (usize, &[u8]),
+) -> Result<(), HeadFault> {
+    let end = Err(WalkFault::ReadFailed);
+    let header = read_header(alloc, &mut MemSource::new(file), &mut [0; 16])?;
+    let count = records_in(rt, &header, file.len());
+    for step in 1..=9 {
+        let mut source = DripSource::new(file, step, fail);
+        let want = Want { v, values, end };
+        let is_right = is_walked(rt, &header, &mut source, (count, 16), &want);
+        assert!(rt; is_right, "{values:?}");
+    }
+    Ok(())
+}
+
 #[test]
-fn failing_sources(rt: HostRuntime) -> Result<(), Fail> {
+fn failing_sources(rt: HostRuntime) -> Result<(), HeadFault> {
     for (file, fail, v, values) in FAILING {
-        let want = Want {
-            v: *v,
-            values: *values,
-            end: Err(WalkFault::ReadFailed),
-        };
-        let header = read_header(rt.alloc(), &mut MemSource::new(*file), &mut [0; 16])?;
-        let count = records_in(&rt, &header, file.len());
-        for step in 1..=9 {
-            let mut source = DripSource::new(*file, step, *fail);
-            expect_walk(&rt, &header, &mut source, (count, 16), &want);
-        }
+        expect_failure(&rt, rt.alloc(), *file, *fail, (*v, *values))?;
     }
     Ok(())
 }
