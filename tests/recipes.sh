@@ -227,9 +227,16 @@ done
 stdout './f.nc\n'
 recipe '! -exec'
 verdict files_with_an_error 0
+if type -P jq >/dev/null; then
+    stdout './f.nc\0'
+    recipe 'jq -j'
+    verdict files_with_a_finding_of_one_kind 0
+else
+    example 'jq -j' >>"$work/run"
+fi
 head -c 500 "$samples/stations.nc" >g.nc
 mkdir dir.nc
-# The first night, then one with a file more, and one that could not check a file: it keeps what was reported before.
+# The first night, then one with a file more, two that could not check a file, and one without files, which keeps what was reported before.
 rm dir.nc -r
 mv g.nc away
 stdout "$found"
@@ -243,12 +250,23 @@ run cat yesterday
 stdout "$found${found//f.nc/g.nc}"
 verdict what_is_yesterday_tomorrow 0
 mv g.nc away && mkdir g.nc
-stdout 'nccheck: ./g.nc: cannot open: not a regular file\n'
+trouble='nccheck: ./g.nc: cannot open: not a regular file\n'
+stdout "$trouble"
 recipe 'comm -13'
 verdict trouble_of_a_night_that_could_not_check_a_file 0
-rmdir g.nc && mv away g.nc
 recipe 'comm -13'
 verdict nothing_is_new_the_night_after 0
+mkdir none && mv ./*.nc none && mv none ..
+stdout 'not whole\n'
+recipe 'comm -13'
+verdict night_without_files 0
+run cat yesterday
+stdout "$found$trouble"
+verdict night_without_files_keeps_the_report 0
+mv ../none/* . && rmdir ../none g.nc && mv away g.nc
+stdout "${found//f.nc/g.nc}"
+recipe 'comm -13'
+verdict new_since_the_file_is_back 0
 rm report trouble
 recipe 'xargs'
 verdict two_runs_of_four_files 123
@@ -263,7 +281,7 @@ else
     example 'uniq -c' >>"$work/run"
     echo 'skipped: jq is not installed'
 fi
-stdout '2 of 3 files are damaged\n'
+stdout '2 of 3 files are damaged, 0 are not checked\n'
 recipe 'json.loads'
 verdict findings_in_python 0
 recipe 'damaged.tar'
@@ -271,6 +289,9 @@ verdict list_of_damaged_files 0
 run bash -c 'tar -tf damaged.tar | sort'
 stdout './f.nc\n./g.nc\n'
 verdict damaged_files_are_in_the_list 0
+stdout '2\n'
+recipe 'tr -dc'
+verdict number_of_damaged_files 0
 # Records that the header doesn't count, and filling
 cp "$samples/stations.nc" f.nc
 printf '\0\0\0\2' | dd of=f.nc bs=1 seek=4 conv=notrunc status=none
@@ -279,7 +300,7 @@ stdout 'f.nc:496: violation: trailing: data: found 504 bytes, expected 496, or n
 verdict records_that_are_not_counted 1
 recipe 'seek=4'
 verdict records_are_counted 0
-run cmp f.nc "$samples/stations.nc"
+run cmp g.nc "$samples/stations.nc"
 verdict file_is_as_before 0
 zeros 100 >>f.nc
 recipe 'tail -c +505'

@@ -31,7 +31,7 @@ option_lines =
     ++ codes "  -j        write findings as JSON objects, one a line\n"
     ++ codes "  -p        write the paths of files with findings instead, each ended by a NUL\n"
     ++ codes "  -k        write the format of each file instead: nc3, nc6 or nc5\n"
-    ++ codes "  -0        check the files too whose paths standard input has, each ended by a NUL\n"
+    ++ codes "  -0        also check the files that standard input lists, each path ended by a NUL\n"
     ++ codes "  -l level  report what is at least as grave: error, violation (the default) or note\n"
     ++ codes "  -i kinds  ignore findings of these kinds (a comma-separated list)\n"
     ++ codes "  -V        print the version\n"

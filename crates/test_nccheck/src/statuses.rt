@@ -22,7 +22,7 @@ const HELP: &[u8] = b"usage: nccheck [-q] [-s] [-j] [-0] [-l level] [-i kinds] [
     -j        write findings as JSON objects, one a line\n  \
     -p        write the paths of files with findings instead, each ended by a NUL\n  \
     -k        write the format of each file instead: nc3, nc6 or nc5\n  \
-    -0        check the files too whose paths standard input has, each ended by a NUL\n  \
+    -0        also check the files that standard input lists, each path ended by a NUL\n  \
     -l level  report what is at least as grave: error, violation (the default) or note\n  \
     -i kinds  ignore findings of these kinds (a comma-separated list)\n  \
     -V        print the version\n  \
