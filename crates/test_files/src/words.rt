@@ -2,10 +2,10 @@
 
 use std::alloc::{AllocError, Global};
 
-/// The first cells of a row, which has a bar between two. Where it has fewer than these, the last ones are empty.
-pub fn cells_of<const N: usize>(row: &str) -> [&str; N] {
+/// The first cells of a row, which has this mark between two. Where it has fewer than these, the last ones are empty.
+pub fn cells_of<const N: usize>(row: &str, mark: char) -> [&str; N] {
     let mut cells = [""; N];
-    for (cell, part) in cells.iter_mut().zip(row.split('|')) {
+    for (cell, part) in cells.iter_mut().zip(row.split(mark)) {
         *cell = part;
     }
     cells

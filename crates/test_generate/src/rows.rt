@@ -3,7 +3,7 @@
 use nc_base::Version;
 use std::alloc::{AllocError, Global};
 use std::process::Abort;
-use test_files::{char_bytes, file_of, parts_of};
+use test_files::{cells_of, char_bytes, file_of};
 
 /// A text, its file in this version, and the dump of that file.
 #[derive(Drop)]
@@ -126,19 +126,13 @@ netcdf t {^variables:^~ubyte a ;^~~a:_FillValue = 255UB ;^~uint64 b ;^~~b:r = 0U
 
 /// The row of a block.
 pub fn row_of(rt: &impl Abort, alloc: Global, block: &str) -> Result<Row, AllocError> {
-    let lines = parts_of(alloc, block, '\n')?;
-    let [_, head, cdl, dump] = lines.as_slice() else {
-        panic!(rt; "{block}");
-    };
-    let words = parts_of(alloc, *head, ' ')?;
-    let [_, number, name] = words.as_slice() else {
-        panic!(rt; "{head}");
-    };
+    let [_, head, cdl, dump]: [&str; 4] = cells_of(block, '\n');
+    let [_, number, name]: [&str; 3] = cells_of(head, ' ');
     let version = Version::of_byte(number.parse().unwrap_or(0));
     Ok(Row {
         version: version.expect(rt, "a version"),
-        cdl: char_bytes(alloc, *cdl)?,
-        file: file_of(alloc, *name)?,
-        dump: char_bytes(alloc, *dump)?,
+        cdl: char_bytes(alloc, cdl)?,
+        file: file_of(alloc, name)?,
+        dump: char_bytes(alloc, dump)?,
     })
 }
