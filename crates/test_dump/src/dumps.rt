@@ -116,7 +116,7 @@ fn say<'a>(row: &mut DumpRow<'a>, word: &'a str) {
 
 /// Fails unless the dump is as this row of a text says.
 fn expect_row(rt: &impl Abort, alloc: Global, row: &str) -> Result<(), AllocError> {
-    let [words, said, fault, text]: [&str; 4] = cells_of(row, '|');
+    let [words, said, fault, text, ..] = cells_of(row, '|');
     let file = file_of(alloc, words)?;
     let text = char_bytes(alloc, text)?;
     let (bytes, text) = (file.as_slice(), text.as_slice());
@@ -270,7 +270,7 @@ fn expect_cut(
     from: usize,
     line: &str,
 ) -> Result<usize, AllocError> {
-    let [to, fault, text]: [&str; 3] = cells_of(line, '|');
+    let [to, fault, text, ..] = cells_of(line, '|');
     let to = to.parse().unwrap_or(0usize);
     let text = char_bytes(alloc, text)?;
     let text = text.as_slice();
@@ -281,7 +281,7 @@ fn expect_cut(
 /// Fails unless prefixes of the file of this block are dumped as it says.
 fn expect_cuts(rt: &impl Abort, alloc: Global, block: &str) -> Result<(), AllocError> {
     let (first, cuts) = block.split_once('\n').unwrap_or((block, ""));
-    let [name, header_len, head]: [&str; 3] = cells_of(first, '|');
+    let [name, header_len, head, ..] = cells_of(first, '|');
     let file = file_of(alloc, name)?;
     let head = char_bytes(alloc, head)?;
     let (bytes, head) = (file.as_slice(), head.as_slice());

@@ -2,11 +2,13 @@
 
 use std::alloc::{AllocError, Global};
 
-/// The first cells of a row, which has this mark between two. Where it has fewer than these, the last ones are empty.
-pub fn cells_of<const N: usize>(row: &str, mark: char) -> [&str; N] {
-    let mut cells = [""; N];
-    for (cell, part) in cells.iter_mut().zip(row.split(mark)) {
-        *cell = part;
+/// The first six cells of a row, which has this mark between two. Those that it lacks are empty.
+pub fn cells_of(row: &str, mark: char) -> [&str; 6] {
+    let mut cells = [""; 6];
+    for (i, part) in row.split(mark).enumerate() {
+        if i < 6 {
+            cells[i] = part;
+        }
     }
     cells
 }

@@ -126,8 +126,8 @@ netcdf t {^variables:^~ubyte a ;^~~a:_FillValue = 255UB ;^~uint64 b ;^~~b:r = 0U
 
 /// The row of a block.
 pub fn row_of(rt: &impl Abort, alloc: Global, block: &str) -> Result<Row, AllocError> {
-    let [_, head, cdl, dump]: [&str; 4] = cells_of(block, '\n');
-    let [_, number, name]: [&str; 3] = cells_of(head, ' ');
+    let [_, head, cdl, dump, ..] = cells_of(block, '\n');
+    let [_, number, name, ..] = cells_of(head, ' ');
     let version = Version::of_byte(number.parse().unwrap_or(0));
     Ok(Row {
         version: version.expect(rt, "a version"),

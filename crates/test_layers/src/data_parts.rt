@@ -141,7 +141,7 @@ fn expect_data(
 
 /// Fails unless the data part of a row is so.
 fn expect_row(rt: &impl Abort, alloc: Global, row: &str) -> Result<(), AllocError> {
-    let [name, listed, data]: [&str; 3] = cells_of(row, '|');
+    let [name, listed, data, ..] = cells_of(row, '|');
     let file = file_of(alloc, name)?;
     let data = hex_bytes(alloc, data)?;
     expect_data(rt, alloc, file.as_slice(), listed, data.as_slice())

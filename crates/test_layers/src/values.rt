@@ -222,7 +222,7 @@ fn type_of(word: &str) -> NcType {
 
 /// Fails unless the values of a row of a text have its text in lines of `width` bytes.
 fn expect_text(rt: &impl Abort, alloc: Global, line: &str, width: usize) -> Result<(), AllocError> {
-    let [name, word, lens, fill, values, text]: [&str; 6] = cells_of(line, '|');
+    let [name, word, lens, fill, values, text] = cells_of(line, '|');
     let values = numbers_of(alloc, values)?;
     let row = Row {
         name,

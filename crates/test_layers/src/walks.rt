@@ -102,7 +102,7 @@ ONE_VARIABLE_CDF2 76=7fffffffffffffff|92|0||0
 
 /// Fails unless the walk of a row is so.
 fn expect_row(rt: &impl Abort, alloc: Global, row: &str) -> Result<(), HeadFault> {
-    let [words, len, v, values, missing]: [&str; 5] = cells_of(row, '|');
+    let [words, len, v, values, missing, ..] = cells_of(row, '|');
     let file = file_of(alloc, words)?;
     let values = hex_bytes(alloc, values)?;
     let want = Want {
