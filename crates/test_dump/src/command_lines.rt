@@ -45,11 +45,13 @@ const USAGE: &[u8] = b"usage: ncdump [-h] [-c] [-v names] [-n name] [-l width] f
 
 /// Returns true if the run over the files of this opener is so.
 fn ends<P: Opener>(alloc: Global, files: &mut P, words: &[&str], run: &Run<'_>) -> bool {
-    let (mut text, mut line) = ([0; 512], [0; 128]);
-    let mut out = SliceSink::new(&mut text[..run.room.0.min(512)], 7);
-    let mut err = SliceSink::new(&mut line[..run.room.1.min(128)], 5);
-    let status = run_with(files, alloc, words, &mut out, &mut err);
-    status == run.status && out.taken() == run.text && err.taken() == run.line
+    let (status, text, line) = (run.status, run.text, run.line);
+    let (text_room, line_room) = run.room;
+    let (mut text_space, mut line_space) = ([0; 512], [0; 128]);
+    let mut out = SliceSink::new(&mut text_space[..text_room.min(512)], 7);
+    let mut err = SliceSink::new(&mut line_space[..line_room.min(128)], 5);
+    let ended = run_with(files, alloc, words, &mut out, &mut err);
+    ended == status && out.taken() == text && err.taken() == line
 }
 
 /// Fails unless the run is so.

@@ -101,31 +101,45 @@ fn records_are_counted_from_the_least_begin(rt: HostRuntime) -> Result<(), Alloc
     Ok(())
 }
 
-/// Returns true if a header of these dimensions is sound, with a variable over those with these ids.
-fn is_sound(alloc: Global, dims: &[NamedLength<'_>], dimids: &[u64]) -> Result<bool, AllocError> {
-    let vars = [("v", dimids, NcType::Ubyte, 0)];
-    let row = HeaderRow {
-        dims,
-        vars: &vars,
-        ..EMPTY
-    };
-    Ok(header_of(alloc, &row)?.sound())
+/// Returns true if a header of these dimensions and variables is sound.
+fn is_sound<'a>(
+    alloc: Global,
+    dims: &'a [NamedLength<'a>],
+    vars: &'a [NamedShape<'a>],
+) -> Result<bool, AllocError> {
+    let header = header_of(
+        alloc,
+        &HeaderRow {
+            dims,
+            vars,
+            ..EMPTY
+        },
+    )?;
+    Ok(header.sound())
 }
 
 #[test]
 fn sound_headers_have_known_dimensions_and_records_first(
     rt: HostRuntime,
 ) -> Result<(), AllocError> {
-    static ROWS: &[(&[NamedLength<'static>], &[u64], bool)] = &[
-        (&[("", 0), ("", 3)], &[0, 1], true),
-        (&[("", 0), ("", 3)], &[1, 0], false),
-        (&[("", 0), ("", 3)], &[2], false),
+    static ROWS: &[(&[NamedLength<'static>], &[NamedShape<'static>], bool)] = &[
+        (
+            &[("", 0), ("", 3)],
+            &[("v", &[0, 1], NcType::Ubyte, 0)],
+            true,
+        ),
+        (
+            &[("", 0), ("", 3)],
+            &[("v", &[1, 0], NcType::Ubyte, 0)],
+            false,
+        ),
+        (&[("", 0), ("", 3)], &[("v", &[2], NcType::Ubyte, 0)], false),
         // two record dimensions
-        (&[("", 0), ("", 0)], &[0], false),
+        (&[("", 0), ("", 0)], &[("v", &[0], NcType::Ubyte, 0)], false),
     ];
-    for (dims, dimids, want) in ROWS {
-        let found = is_sound(rt.alloc(), *dims, *dimids)?;
-        assert!(rt; found == *want, "{dimids:?}");
+    for (dims, vars, want) in ROWS {
+        let found = is_sound(rt.alloc(), *dims, *vars)?;
+        assert!(rt; found == *want, "{vars:?}");
     }
     Ok(())
 }

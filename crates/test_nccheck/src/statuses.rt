@@ -252,6 +252,11 @@ static OTHERS: &[Run<'_>] = &[
     ),
 ];
 
+/// Returns true if the run over these files ends as wanted.
+fn ends_over(alloc: Global, files: &[MemFile<'_>], run: &Run<'_>, input: Input<'_>) -> bool {
+    ends(alloc, &mut MemFiles::new(&*files), run, input)
+}
+
 /// The lines of a block after this mark, each with a line feed.
 fn marked(alloc: Global, block: &str, mark: char) -> Result<String, AllocError> {
     let mut text = String::new(alloc);
@@ -307,12 +312,7 @@ fn ends_so(alloc: Global, files: &[MemFile<'_>], block: &str) -> Result<bool, Al
     let (lines, trouble) = (lines.as_bytes(), trouble.as_bytes());
     let run = (words.as_slice(), room, status, lines, trouble);
     let (bytes, fails) = (bytes.as_slice(), listed.ends_with('%'));
-    Ok(ends(
-        alloc,
-        &mut MemFiles::new(files),
-        &run,
-        Input { bytes, fails },
-    ))
+    Ok(ends_over(alloc, files, &run, Input { bytes, fails }))
 }
 
 /// Returns true if these words are refused as misused in this way, with the usage.
@@ -334,7 +334,7 @@ fn ends_misused(
         b"".as_slice(),
         trouble.as_bytes(),
     );
-    Ok(ends(alloc, &mut MemFiles::new(files), &run, UNREAD))
+    Ok(ends_over(alloc, files, &run, UNREAD))
 }
 
 /// Fails unless the run of each block of this table ends as the block says.
@@ -362,7 +362,7 @@ fn expect_misuses(rt: &impl Abort, alloc: Global, files: &[MemFile<'_>]) -> Resu
 /// Fails unless the other runs end as they have to.
 fn expect_others(rt: &impl Abort, alloc: Global, files: &[MemFile<'_>]) {
     for run in OTHERS {
-        let is_right = ends(alloc, &mut MemFiles::new(files), run, UNREAD);
+        let is_right = ends_over(alloc, files, run, UNREAD);
         assert!(rt; is_right, "{:?}", run.0);
     }
 }
