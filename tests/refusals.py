@@ -32,8 +32,8 @@ RESERVED = {
     ("nc_base/src/listed_array.rt to_bytes", "reserve_exact(usize::try_from(len).unwrap_or(usize::MAX).saturating_add(more))"):
         "rows that are then filled up; in `parse` alone",
     ("nc_fields/src/header.rt list_fields", "with_capacity(alloc,FEW_FIELDS)"): "a constant",
-    ("nccheck_cli/src/main.rt run_words", "with_capacity(alloc,HELD_BACK,io::writer(rt))"): "a constant",
-    ("nccheck_cli/src/main.rt run_words", "with_capacity(alloc,HELD_BACK,stderr)"): "a constant",
+    ("nccheck_cli/src/main.rt run_words", "with_capacity(alloc,LINE_HELD_BACK,io::writer(rt))"): "a constant",
+    ("nccheck_cli/src/main.rt run_words", "with_capacity(alloc,LINE_HELD_BACK,stderr)"): "a constant",
     ("ncdump/src/selection.rt selection_in_both", "with_capacity(alloc,vars.len())"): "the length of a list that is in memory",
     ("ncdump_cli/src/main.rt run_words", "with_capacity(alloc,LINE_HELD_BACK,stderr)"): "a constant",
     ("ncdump_cli/src/main.rt run_words", "with_capacity(alloc,TEXT_HELD_BACK,io::writer(rt))"): "a constant",

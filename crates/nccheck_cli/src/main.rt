@@ -11,36 +11,37 @@ use cli_base::OptFault;
 use devices::{CountedRead, DirectFiles, Flush, IoSink};
 use nccheck::{put_command_line_fault, run_with};
 use std::fs::File;
-use std::io::{BufWriter, Write};
+use std::io::{LineWriter, Write};
 use std::process::ExitCode;
 use std::rt::{Env, Files};
 use std::{env, io};
 
 /// The capacity, in bytes, of the buffers before standard output and standard error. A line, or a path of `-p`, that fits is passed on in
 /// one write, at its end: a pipe takes as many bytes in one piece, so that those of several processes don't mix in it.
-const HELD_BACK: usize = 4096;
+const LINE_HELD_BACK: usize = 4096;
 
-/// A writer that passes each line, and each path that a NUL ends, on in one write, if it fits in the buffer.
+/// A writer that passes each line, and each path that a NUL ends, on in one write, if it fits in the buffer. (A `write` of the buffer itself
+/// passes on first what it holds, and then the end of the line.)
 #[derive(Drop)]
 struct WholeLines<W: Write + Drop> {
-    /// What is held back of a line, or of a path, that has no end yet.
-    held: BufWriter<W>,
+    /// The buffer.
+    lines: LineWriter<W>,
 }
 
 impl<W: Write + Drop> Write for WholeLines<W> {
-    /// Takes all the bytes. Passes on what it has if they end with a line feed or a NUL, and otherwise holds it back if it fits in the
-    /// buffer. Errs if the writer that it passes them on to fails.
+    /// Takes all the bytes. Passes on what it has up to the end of the last line, or all if a NUL is the last byte, and holds the rest back
+    /// if it fits in the buffer. Errs if the writer that it passes them on to fails.
     fn write(&mut self, buf: &[u8]) -> io::Result<usize> {
-        self.held.write_all(buf)?;
-        if let [.., b'\n' | 0] = buf {
-            self.held.flush()?;
+        self.lines.write_all(buf)?;
+        if let [.., 0] = buf {
+            self.lines.flush()?;
         }
         Ok(buf.len())
     }
 
     /// Passes on what is held back. Errs if the writer that it passes this on to fails.
     fn flush(&mut self) -> io::Result<()> {
-        self.held.flush()
+        self.lines.flush()
     }
 }
 
@@ -72,10 +73,10 @@ fn run_words<R: Env + Files<File = File> + Input + Print + AllocGlobal, E: Write
     let mut files = DirectFiles::new(rt);
     let mut input = CountedRead::new(rt.reader());
     let mut out = IoSink::new(WholeLines {
-        held: BufWriter::with_capacity(alloc, HELD_BACK, io::writer(rt))?,
+        lines: LineWriter::with_capacity(alloc, LINE_HELD_BACK, io::writer(rt))?,
     });
     let mut err = IoSink::new(WholeLines {
-        held: BufWriter::with_capacity(alloc, HELD_BACK, stderr)?,
+        lines: LineWriter::with_capacity(alloc, LINE_HELD_BACK, stderr)?,
     });
     let words = words.as_slice();
     let status = run_with(&mut files, alloc, words, &mut input, &mut out, &mut err);
