@@ -233,14 +233,11 @@ verdict each_word_in_its_order 1
 for _ in {1..8}; do for n in {1..1000}; do echo "many/$n.nc:500: error: $missing"; done; done | LC_ALL=C sort >"$work/want/stdout"
 run bash -c 'for _ in {1..8}; do ls many/*; done | xargs -n 1000 -P 4 "$0" | { sleep 1; LC_ALL=C sort; }' "$nccheck"
 verdict lines_of_processes_that_share_a_pipe 0
-for _ in {1..8}; do for n in {1..1000}; do echo "many/$n.nc"; done; done | LC_ALL=C sort | tr '\n' '\0' >"$work/want/stdout"
-run bash -c 'for _ in {1..8}; do ls many/*; done | xargs -n 1000 -P 4 "$0" -p | { sleep 1; LC_ALL=C sort -z; }' "$nccheck"
+# The same of paths, each with its NUL: of these, whose 16 bytes end where a buffer of 4,096 is full, a NUL by itself would mix.
+mkdir same && cp many/1.nc same/00000001.nc
+stdout '8000 same/00000001.nc\n'
+run bash -c 'yes same/00000001.nc | head -n 8000 | xargs -n 1000 -P 4 "$0" -p | { sleep 1; tr "\0" "\n" | uniq -c | sed "s/^ *//"; }' "$nccheck"
 verdict paths_of_processes_that_share_a_pipe 0
-# A path goes out with its NUL, also one that is as long as a buffer of 4,096 bytes leaves room for after another one.
-paths=("$(printf './%.0s' {1..1019})many/1.nc" "$(printf './%.0s' {1..1019})many/10.nc" many/2.nc)
-stdout "${paths[0]}\0${paths[1]}\0${paths[2]}\0"
-run "$nccheck" -p "${paths[@]}"
-verdict long_paths 1
 
 # A file that becomes shorter after it was opened ends where it ends now (early_end.c): what is missing of its header is no zeros. What is
 # found counts by the length that it had when it was opened, 504 bytes.

@@ -52,7 +52,8 @@ pub(crate) const KINDS: &[Kind] = &[
     Kind::Trailing,
 ];
 
-/// Returns true if `word` is the word of a kind of findings, such as `gap`. The clause `all` says that the word of each kind names that kind alone.
+/// Returns true if `word` is the word of a kind of findings, such as `gap`. The clause `all` says that the word of each kind names that
+/// kind alone.
 #[tactic(auto, unfolding(crate::specs::KindWords::is_kind_word))]
 pub(crate) fn is_kind_word(word: &str) -> bool
     ensures word { result ≡ is_kind_word word.now }

@@ -153,7 +153,7 @@ fn has_other(letters: &[u8]) -> bool
     false
 }
 
-/// Returns true if an option has this letter. The clause `letters` says that no option is left out of the letters, nor one too many in them.
+/// Returns true if an option has this letter. The clause `letters` says that these letters are those of the command's options.
 fn is_option(letter: u8) -> bool
     ensures option { result ≡ is_option letter }
     ensures letters { OptionsHaveLetters }
