@@ -52,7 +52,7 @@ CODE = ["crates/*/src", "crates/*/specs", "crates/*/proofs", "tests", "bench", "
 NAMED = re.compile(r"`([A-Z]\w+)\.(?!antt`)(\w+)`")
 # an example at the head of a crate, and the body of a function
 EXAMPLE = re.compile(r"^//! ```\n((?://!.*\n)*?)//! ```\n", re.M)
-BODY = re.compile(r"^(?:pub fn .*)?\{\n((?:    .*\n|\n)*)\}\n", re.M)
+BODY = re.compile(r"^(?:pub fn .*|\) -> .*)?\{\n((?:    .*\n|\n)*)\}\n", re.M)
 HEADING = re.compile(r"^#+ +(.+?) *$", re.M)
 # the first line of a file of `specs/`
 KIND = re.compile(r"-- (Definition|Law|For contracts)\. ")

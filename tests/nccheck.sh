@@ -174,14 +174,14 @@ done
 stderr 'nccheck: write failed\n'
 run bash -c '"$0" -V >&-' "$nccheck"
 verdict version_to_a_closed_standard_output 2
-stderr 'nccheck: cut.nc: write failed\nnccheck: write failed\n'
+stderr 'nccheck: cut.nc: write failed\n'
 run bash -c '"$0" cut.nc >&-' "$nccheck"
 verdict closed_standard_output 2
 if has_full_device; then
-    stderr 'nccheck: cut.nc: write failed\nnccheck: write failed\n'
+    stderr 'nccheck: cut.nc: write failed\n'
     run bash -c '"$0" cut.nc >/dev/full' "$nccheck"
     verdict full_device 2
-    stderr 'nccheck: write failed\nnccheck: write failed\n'
+    stderr 'nccheck: write failed\n'
     run bash -c '"$0" -q -s cut.nc >/dev/full' "$nccheck"
     verdict summary_on_a_full_device 2
 fi

@@ -6,7 +6,7 @@ use Rattle.nc_types.specs.Bytes.{concat_parts}
 use Rattle.devices.specs.Sinks.{SinkView, append}
 use Rattle.devices.proofs.Writes.{append-++, append-none, writes}
 use Rattle.check_lines.specs.Json.{is_plain, json_byte, json_text}
-use Rattle.check_lines.specs.Words.{each_of}
+use Rattle.check_lines.specs.Shown.{each_of}
 use Rattle.check_lines.specs.code.Styles.{byte_in, each_in, in_style, said_in}
 use Rattle.check_lines.specs.declared.style.Style.{Style}
 use Rattle.check_lines.specs.declared.style.Style.TheVariants.{Line, Json}

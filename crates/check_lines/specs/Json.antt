@@ -3,11 +3,11 @@
 use Rattle.std.specs.Prelude.{ℕ, ◌==◌, ◌||◌, Bool, not, nat_lt, if◌then◌else◌, List, [], ◌∷◌, ◌++◌, codes, decimal, Option, Some, None}
 use Rattle.std.specs.Str.{byte}
 use Rattle.nc_types.specs.Bytes.{Bytes, concat_parts}
-use Rattle.nc_findings.specs.declared.{listing.Listing.Listing, finding.Finding.Finding, kind.Kind.Kind}
-use Rattle.nc_findings.specs.Kinds.{severity_of}
-use Rattle.check_lines.specs.Lines.{Filter, Told, if_reported, told}
+use Rattle.nc_findings.specs.declared.{filter.Filter.Filter, finding.Finding.Finding, kind.Kind.Kind, listing.Listing.Listing}
+use Rattle.nc_findings.specs.Kinds.{kind_word, severity_of, severity_word}
+use Rattle.check_lines.specs.Lines.{Told, if_reported, told}
 use Rattle.check_lines.specs.Messages.{hex_byte}
-use Rattle.check_lines.specs.Words.{each_of, kind_word, severity_word}
+use Rattle.check_lines.specs.Shown.{each_of}
 
 -- ---- strings
 

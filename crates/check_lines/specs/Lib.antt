@@ -1,4 +1,3 @@
-pub mod Words
 pub mod Shown
 pub mod Paths
 pub mod Messages

@@ -3,18 +3,17 @@
 use Rattle.std.specs.Prelude.{ℕ, ◌+◌, ◌&&◌, not, Bool, true, false, if◌then◌else◌, List, [], ◌∷◌, codes, decimal, take, Option, Some, None, slice_get}
 use Rattle.std.specs.List.{list_any}
 use Rattle.std.specs.Option.{option_and_then}
-use Rattle.std.specs.Str.{bytes_eq}
 use Rattle.nc_types.specs.Bytes.{Bytes, concat_parts}
-use Rattle.nc_findings.specs.declared.{listing.Listing.Listing, entry.Entry.Entry, finding.Fact.Fact, finding.Finding.Finding, kind.Kind.Kind, kind.Severity.Severity}
+use Rattle.nc_findings.specs.declared.{listing.Listing.Listing, entry.Entry.Entry, filter.Filter.Filter, finding.Fact.Fact, finding.Finding.Finding, kind.Kind.Kind, kind.Severity.Severity}
+use Rattle.nc_findings.specs.contracts.kind.KindPartialEq.TheImpl as equal
 use Rattle.nc_findings.specs.declared.layout_fact.LayoutFact.TheVariants as layout
-use Rattle.nc_findings.specs.Kinds.{kind_of, severity_of}
+use Rattle.nc_findings.specs.Kinds.{kind_of, kind_word, severity_of, severity_word}
 use Rattle.nc_findings.specs.declared.finding.Fact.TheVariants as fact
 use Rattle.nc_findings.specs.declared.kind.Severity.TheVariants.{Error, Violation, Note}
 use Rattle.check_lines.specs.Details.{details}
 use Rattle.check_lines.specs.Messages.{expected_text, found_text}
 use Rattle.check_lines.specs.Paths.{KnownNames, field_path, names_after, no_names, slab_path, var_path}
-use Rattle.check_lines.specs.Shown.{shown_path}
-use Rattle.check_lines.specs.Words.{each_of, kind_word, severity_word}
+use Rattle.check_lines.specs.Shown.{each_of, shown_path}
 
 -- at a variable whose slab is too large, or at a field, with the names that are known there, or in the data: at a slab that isn't whole, or
 -- anywhere
@@ -91,17 +90,13 @@ is_at_level Violation severity = true
 is_at_level Error Error = true
 is_at_level Error severity = false
 
--- the level from which on findings are reported, and the words of the kinds that aren't
-pub record Filter : Type 0 where
-  pub level : Severity
-  pub ignored : List Bytes
+-- one of these kinds is that of the finding
+abbrev pub is_of_kind : List Kind → Finding → Bool
+is_of_kind kinds f = list_any (λ kind. equal.ghosts.eq kind (kind_of f.fact)) kinds
 
-abbrev pub is_ignored : List Bytes → Kind → Bool
-is_ignored words kind = list_any (λ (word : Bytes). bytes_eq word (kind_word kind)) words
-
+-- it is grave enough for the filter, and of no kind that it ignores
 abbrev pub is_reported : Filter → Finding → Bool
-is_reported filter f =
-    is_at_level filter.level (severity_of (kind_of f.fact)) && not (is_ignored filter.ignored (kind_of f.fact))
+is_reported filter f = is_at_level filter.level (severity_of (kind_of f.fact)) && not (is_of_kind filter.ignored f)
 
 -- the text that a finding has, if it is reported
 abbrev pub if_reported : (Finding → Bytes) → Filter → Finding → Bytes

@@ -11,7 +11,7 @@ use Rattle.nc_findings.specs.Contents.{number_of}
 use Rattle.check_lines.specs.declared.message.Part.{Part}
 use Rattle.check_lines.specs.declared.message.Part.TheVariants.{Number, Long, TypeCode, FieldContent, FieldType, FieldZeros, OfBlock}
 use Rattle.check_lines.specs.Paths.{block_path}
-use Rattle.check_lines.specs.Words.{each_of}
+use Rattle.check_lines.specs.Shown.{each_of}
 
 -- ---- contents
 

@@ -1,13 +1,16 @@
 -- Definition. How a line shows the bytes of names and paths.
-use Rattle.std.specs.Prelude.{ℕ, ◌==◌, ◌||◌, Bool, true, false, not, nat_le, if◌then◌else◌, [], ◌∷◌, codes, length, take}
+use Rattle.std.specs.Prelude.{ℕ, ◌==◌, ◌||◌, Bool, true, false, not, nat_le, if◌then◌else◌, List, [], ◌∷◌, codes, length, map, take}
 use Rattle.std.specs.Char.{is_ascii_control}
 use Rattle.std.specs.Str.{byte, is_utf8}
 use Rattle.nc_types.specs.Bytes.{Bytes, concat_parts}
 use Rattle.nc_types.specs.Escapes.{escaped_in_string, octal_escape}
 use Rattle.nc_types.specs.Names.{is_beyond_ascii}
-use Rattle.check_lines.specs.Words.{each_of}
 use Rattle.check_lines.specs.declared.shown.Form.{Form}
 use Rattle.check_lines.specs.declared.shown.Form.TheVariants.{Quoted, Bare}
+
+-- the texts of these elements, one after the other
+abbrev pub each_of : {X : Type 0} → (X → Bytes) → List X → Bytes
+each_of text xs = concat_parts (map text xs)
 
 -- quotes need no escape in it
 abbrev pub is_bare : Form → Bool

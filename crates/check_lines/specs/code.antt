@@ -1,4 +1,3 @@
 pub mod Names
 pub mod Written
-pub mod Filters
 pub mod Styles

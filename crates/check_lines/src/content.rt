@@ -2,7 +2,7 @@
 
 ghost use Rattle.std.specs.Prelude.{◌≡◌, ◌<◌};
 ghost use Rattle.devices.specs.code.SinkWrites.{Wrote};
-ghost use Rattle.check_lines.specs.Messages.{content_text, digits, hex_byte, hex_digit, hex_text, type_text, type_word, zeros_text};
+ghost use Rattle.check_lines.specs.Messages.{content_text, digits, hex_digit, hex_text, type_text, type_word, zeros_text};
 ghost use Rattle.check_lines.specs.code.Styles.{byte_in, each_in, in_style};
 
 use crate::style::{Style, put_text};

@@ -94,10 +94,9 @@ fn data_message(fact: Fact) -> Message
 fn owner_number_at(entries: &[Entry], i: u64) -> u64
     ensures { result ≡ owner_number_at entries.now i }
 {
-    match entries.get(i as usize) {
-        Some(entry) => owner_number(entry.place.owner),
-        None => 0,
-    }
+    entries
+        .get(i as usize)
+        .map_or(0, |entry| owner_number(entry.place.owner))
 }
 
 /// Returns the number of a dimension, an attribute or a variable in its list, from 0. For the header itself, returns 0.

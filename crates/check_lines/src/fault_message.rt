@@ -113,8 +113,5 @@ fn last_type(entries: &[Entry]) -> u64
 fn number_of_field(entries: &[Entry], i: usize) -> u64
     ensures { result ≡ number_of_field entries.now i }
 {
-    match entries.get(i) {
-        Some(entry) => entry.content.number(),
-        None => 0,
-    }
+    entries.get(i).map_or(0, |entry| entry.content.number())
 }

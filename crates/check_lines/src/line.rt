@@ -11,7 +11,6 @@ use crate::field_path::{put_field_path, put_slab_path, put_var_path};
 use crate::known_names::Names;
 use crate::shown::put_file_path;
 use crate::style::{Style, put_text};
-use crate::words::{kind_word, severity_word};
 use devices::{Sink, WriteFailed, put, put_decimal};
 use nc_findings::{Entry, Fact, Finding, Kind, LayoutFact, Listing};
 
@@ -53,9 +52,9 @@ fn put_position<W: Sink>(sink: &mut W, file: &[u8], offset: u64) -> Result<(), W
 fn put_kind<W: Sink>(sink: &mut W, kind: Kind) -> Result<(), WriteFailed>
     ensures { Wrote W.view sink.old sink.new (kind_text kind) result }
 {
-    put(sink, severity_word(kind.severity()).as_bytes())?;
+    put(sink, kind.severity().word().as_bytes())?;
     put(sink, b": ")?;
-    put(sink, kind_word(kind).as_bytes())?;
+    put(sink, kind.word().as_bytes())?;
     put(sink, b": ")
 }
 

@@ -1,5 +1,6 @@
 //! The JSON object of a finding.
 
+ghost use Rattle.std.specs.Prelude.{codes};
 ghost use Rattle.devices.specs.code.SinkWrites.{Wrote};
 ghost use Rattle.check_lines.specs.Json.{kind_members, member, number_member, object_text, position_members};
 ghost use Rattle.check_lines.specs.Lines.{path, told_with};
@@ -9,7 +10,6 @@ use crate::details::put_details;
 use crate::known_names::Names;
 use crate::line::{entry_of, put_finding_path};
 use crate::style::{Style, put_text};
-use crate::words::{kind_word, severity_word};
 use devices::{Sink, WriteFailed, put, put_decimal};
 use nc_findings::{Entry, Fact, Finding, Kind, Listing};
 
@@ -30,7 +30,7 @@ pub(crate) fn put_object<W: Sink>(
     let entry = entry_of(listing, finding);
     put_position(sink, file, finding.offset)?;
     put_kind(sink, finding.fact.kind())?;
-    put_path_member(sink, b",\"path\":\"", listing, names, entry, finding.fact)?;
+    put_path_member(sink, listing, names, entry, finding.fact)?;
     put_details(sink, Style::Json, listing, entry, finding.fact)?;
     put(sink, b"}\n")
 }
@@ -49,9 +49,9 @@ fn put_position<W: Sink>(sink: &mut W, file: &[u8], offset: u64) -> Result<(), W
 fn put_kind<W: Sink>(sink: &mut W, kind: Kind) -> Result<(), WriteFailed>
     ensures { Wrote W.view sink.old sink.new (kind_members kind) result }
 {
-    let severity = severity_word(kind.severity());
+    let severity = kind.severity().word();
     put_member(sink, b",\"severity\":\"", severity.as_bytes())?;
-    put_member(sink, b",\"kind\":\"", kind_word(kind).as_bytes())
+    put_member(sink, b",\"kind\":\"", kind.word().as_bytes())
 }
 
 /// Writes a member of an object: `name`, its name with what stands around it (`,"offset":`), and the number. Errs if the sink fails.
@@ -73,21 +73,19 @@ fn put_member<W: Sink>(sink: &mut W, name: &[u8], text: &[u8]) -> Result<(), Wri
     put(sink, b"\"")
 }
 
-/// Writes a member of an object: `name`, its name with what stands around it (`,"path":"`), where the finding lies, as [`put_finding_path`]
-/// tells it, and a quote. Errs if the sink fails.
+/// Writes the member `path` of an object: where the finding lies, as [`put_finding_path`] tells it. Errs if the sink fails.
 #[tactic(auto, using(devices::proofs::Writes::writes), unfolding(crate::specs::Json::member, crate::specs::code::Styles::in_style))]
 fn put_path_member<W: Sink>(
     sink: &mut W,
-    name: &[u8],
     listing: &Listing,
     names: Names<'_>,
     entry: Option<&Entry>,
     fact: Fact,
 ) -> Result<(), WriteFailed>
-    ensures { Wrote W.view sink.old sink.new (member name.now
+    ensures { Wrote W.view sink.old sink.new (member (codes ",\"path\":\"")
         (path listing.now (known names.entry) (entry_in entry.entry) fact)) result }
 {
-    put(sink, name)?;
+    put(sink, b",\"path\":\"")?;
     put_finding_path(sink, Style::Json, listing, names, entry, fact)?;
     put(sink, b"\"")
 }

@@ -1,23 +1,19 @@
 //! The lines of a report, and its lines in JSON.
 
 ghost use Rattle.std.specs.Prelude.{◌≡◌, IfOk};
-ghost use Rattle.cli_base.specs.Arguments.{texts_of};
 ghost use Rattle.devices.specs.code.SinkWrites.{Wrote};
 ghost use Rattle.check_lines.specs.Json.{json_lines};
-ghost use Rattle.check_lines.specs.Lines.{gravest, has_reported, if_reported, is_at_level, is_ignored, is_reported, lines};
-ghost use Rattle.check_lines.specs.Words.{each_of};
-ghost use Rattle.check_lines.specs.code.Filters.{filter_for};
+ghost use Rattle.check_lines.specs.Lines.{gravest, has_reported, if_reported, is_at_level, is_reported, lines};
+ghost use Rattle.check_lines.specs.Shown.{each_of};
 ghost use Rattle.check_lines.specs.code.Names.{IsPassed};
 ghost use Rattle.check_lines.specs.code.Styles.{finding_in};
 
-use crate::filter::FilterOptions;
 use crate::line::put_line;
 use crate::object::put_object;
 use crate::passed::{Passed, nothing_passed, passed_up_to};
 use crate::style::Style;
-use crate::words::kind_word;
 use devices::{Sink, WriteFailed};
-use nc_findings::{Finding, Kind, Listing, Report, Severity};
+use nc_findings::{Filter, Finding, Listing, Report, Severity};
 
 /// Writes a line for each finding of a report that `filter` lets be reported: one that is grave enough and of no ignored kind. The lines
 /// are in the order of the report. Each begins with `file`, which is the path of the file.
@@ -30,10 +26,10 @@ pub fn put_lines<W: Sink>(
     sink: &mut W,
     file: &[u8],
     report: &Report,
-    filter: &FilterOptions<'_>,
+    filter: &Filter,
 ) -> Result<(), WriteFailed>
     ensures { Wrote W.view sink.old sink.new
-        (lines (filter_for filter.now) file.now report.now.listing report.now.findings) result }
+        (lines filter.now file.now report.now.listing report.now.findings) result }
 {
     put_findings(sink, Style::Line, file, report, filter)
 }
@@ -50,10 +46,10 @@ pub fn put_json_lines<W: Sink>(
     sink: &mut W,
     file: &[u8],
     report: &Report,
-    filter: &FilterOptions<'_>,
+    filter: &Filter,
 ) -> Result<(), WriteFailed>
     ensures { Wrote W.view sink.old sink.new
-        (json_lines (filter_for filter.now) file.now report.now.listing report.now.findings) result }
+        (json_lines filter.now file.now report.now.listing report.now.findings) result }
 {
     put_findings(sink, Style::Json, file, report, filter)
 }
@@ -66,10 +62,10 @@ fn put_findings<W: Sink>(
     style: Style,
     file: &[u8],
     report: &Report,
-    filter: &FilterOptions<'_>,
+    filter: &Filter,
 ) -> Result<(), WriteFailed>
     ensures { Wrote W.view sink.old sink.new (each_of
-        (if_reported (finding_in style file.now report.now.listing) (filter_for filter.now))
+        (if_reported (finding_in style file.now report.now.listing) filter.now)
         report.now.findings) result }
 {
     let findings = report.findings.as_slice();
@@ -89,13 +85,13 @@ fn put_if_reported<'a, W: Sink>(
     style: Style,
     file: &[u8],
     listing: &'a Listing,
-    filter: &FilterOptions<'_>,
+    filter: &Filter,
     passed: Passed<'a>,
     finding: &Finding,
 ) -> Result<Passed<'a>, WriteFailed>
     requires { IsPassed listing.now.entries passed }
     ensures text { Wrote W.view sink.old sink.new (if_reported
-        (finding_in style file.now listing.entry.now) (filter_for filter.now) finding.now) result }
+        (finding_in style file.now listing.entry.now) filter.now finding.now) result }
     ensures passed { IfOk result (IsPassed listing.entry.now.entries) }
 {
     if !is_reported(filter, finding) {
@@ -110,8 +106,8 @@ fn put_if_reported<'a, W: Sink>(
 }
 
 /// Returns the gravest severity of the findings that the filter lets be reported, or `None` if it lets none.
-pub fn gravest(report: &Report, filter: &FilterOptions<'_>) -> Option<Severity>
-    ensures { result ≡ gravest (filter_for filter.now) report.now.findings }
+pub fn gravest(report: &Report, filter: &Filter) -> Option<Severity>
+    ensures { result ≡ gravest filter.now report.now.findings }
 {
     if has_reported(report, filter, Severity::Error) {
         Some(Severity::Error)
@@ -125,8 +121,8 @@ pub fn gravest(report: &Report, filter: &FilterOptions<'_>) -> Option<Severity>
 }
 
 /// Returns true if the filter lets a finding of the report be reported that is at least as grave as `severity`.
-fn has_reported(report: &Report, filter: &FilterOptions<'_>, severity: Severity) -> bool
-    ensures { result ≡ has_reported (filter_for filter.now) severity report.now.findings }
+fn has_reported(report: &Report, filter: &Filter, severity: Severity) -> bool
+    ensures { result ≡ has_reported filter.now severity report.now.findings }
 {
     let findings = report.findings.as_slice();
     findings.iter().any(|finding| {
@@ -134,24 +130,12 @@ fn has_reported(report: &Report, filter: &FilterOptions<'_>, severity: Severity)
     })
 }
 
-/// Returns true if the finding is at least as grave as the level of the filter, and of no ignored kind.
-fn is_reported(filter: &FilterOptions<'_>, finding: &Finding) -> bool
-    ensures { result ≡ is_reported (filter_for filter.now) finding.now }
+/// Returns true if the finding is at least as grave as the level of the filter, and of no kind that it ignores.
+fn is_reported(filter: &Filter, finding: &Finding) -> bool
+    ensures { result ≡ is_reported filter.now finding.now }
 {
     let kind = finding.fact.kind();
-    is_at_level(filter.level, kind.severity()) && !is_ignored(filter.ignored.as_slice(), kind)
-}
-
-/// Returns true if one of `words` is the word of this kind, such as `gap`.
-fn is_ignored(words: &[&str], kind: Kind) -> bool
-    ensures { result ≡ is_ignored (texts_of words.now) kind }
-{
-    for word in words {
-        if *word == kind_word(kind) {
-            return true;
-        }
-    }
-    false
+    is_at_level(filter.level, kind.severity()) && !filter.ignored.as_slice().contains(&kind)
 }
 
 /// Returns true if `severity` is at least as grave as `level`. A note is the least grave, and an error the gravest.

@@ -5,8 +5,7 @@ ghost use Rattle.std.specs.List.{list_all};
 ghost use Rattle.std.specs.Str.{is_utf8};
 ghost use Rattle.nc_types.specs.code.Quoted.{written};
 ghost use Rattle.devices.specs.code.SinkWrites.{Wrote};
-ghost use Rattle.check_lines.specs.Shown.{dots, shown, shown_byte, shown_name, shown_path, stays};
-ghost use Rattle.check_lines.specs.Words.{each_of};
+ghost use Rattle.check_lines.specs.Shown.{dots, each_of, shown, shown_byte, shown_name, shown_path, stays};
 ghost use Rattle.check_lines.specs.code.Styles.{byte_in, each_in, in_style};
 
 use crate::style::{Style, put_text};

@@ -4,7 +4,7 @@ ghost use Rattle.std.specs.Prelude.{◌≡◌};
 ghost use Rattle.std.specs.List.{list_all};
 ghost use Rattle.devices.specs.code.SinkWrites.{Wrote};
 ghost use Rattle.check_lines.specs.Json.{is_plain, json_byte, json_text};
-ghost use Rattle.check_lines.specs.Words.{each_of};
+ghost use Rattle.check_lines.specs.Shown.{each_of};
 ghost use Rattle.check_lines.specs.code.Styles.{in_style};
 
 use crate::content::hex_digit;

@@ -1,2 +1,3 @@
 pub mod Prelude
 pub mod CommandLines
+pub mod KindLists

@@ -1,15 +1,14 @@
 -- Definition. What the words of the command line ask for.
-use Rattle.std.specs.Prelude.{◌≡◌, ℕ, ◌==◌, ◌&&◌, ◌||◌, not, Bool, true, false, List, [], ◌∷◌, codes, Option, Some, None, is_some, find, fold, if◌then◌else◌, Result, Ok, Err}
+use Rattle.std.specs.Prelude.{◌≡◌, ℕ, ◌==◌, ◌&&◌, ◌||◌, Bool, true, false, List, [], ◌∷◌, codes, Option, Some, None, is_some, fold, if◌then◌else◌, Result, Ok, Err}
 use Rattle.std.specs.List.{filter_map, list_any, slice_split}
 use Rattle.std.specs.Str.{byte, bytes_eq}
 use Rattle.clap.specs.Words.{App, Kinds, Row, Rule, all_of, fault_of, first_of, matches_of, new_app, new_rule, with_rule}
 use Rattle.clap.specs.declared.builder.ArgAction.TheVariants.{Append}
 use Rattle.cli_base.specs.Arguments.{flag, is_given, option, quiet}
 use Rattle.nc_types.specs.Bytes.{Bytes}
-use Rattle.nc_findings.specs.declared.kind.Severity.{Severity}
+use Rattle.nc_findings.specs.declared.{filter.Filter.Filter, kind.Kind.Kind, kind.Severity.Severity}
 use Rattle.nc_findings.specs.declared.kind.Severity.TheVariants.{Error, Violation, Note}
-use Rattle.check_lines.specs.Lines.{Filter}
-use Rattle.check_options.specs.KindWords.{is_kind_word}
+use Rattle.check_options.specs.KindWords.{kind_named}
 use Rattle.check_options.specs.Misuse.{Misuse, misuse_in, option_letters, NoFile, NoKind, NoLevel, NotWithFormats, NotWithPaths}
 use Rattle.check_options.specs.declared.options.Form.{Form}
 use Rattle.check_options.specs.declared.options.Form.TheVariants.{Lines, Objects, Paths}
@@ -65,16 +64,23 @@ abbrev pub level_in : Option Bytes → Result Severity Misuse
 level_in None = Ok Violation
 level_in (Some word) = level_said word
 
--- the words of kinds, with commas between them
-abbrev pub kinds_said : Bytes → Result (List Bytes) Misuse
-kinds_said word =
-    let words = slice_split (λ (b : ℕ). b == byte ",") word in
-    elim (find (λ word. not (is_kind_word word)) words) [ None ↦ Ok words | Some word ↦ Err (NoKind word) ]
+abbrev pub kind_said : Bytes → Result Kind Misuse
+kind_said word = elim (kind_named word) [ Some kind ↦ Ok kind | None ↦ Err (NoKind word) ]
 
--- those of `-i`, otherwise none
-abbrev pub ignored_in : Option Bytes → Result (List Bytes) Misuse
+-- a kind before others; the first misuse counts
+abbrev pub kind_before : Result Kind Misuse → Result (List Kind) Misuse → Result (List Kind) Misuse
+kind_before (Ok kind) (Ok kinds) = Ok (kind ∷ kinds)
+kind_before (Ok kind) (Err misuse) = Err misuse
+kind_before (Err misuse) kinds = Err misuse
+
+abbrev pub kinds_said : List Bytes → Result (List Kind) Misuse
+kinds_said [] = Ok []
+kinds_said (word ∷ words) = kind_before (kind_said word) (kinds_said words)
+
+-- those of `-i`, with commas between their words, otherwise none
+abbrev pub ignored_in : Option Bytes → Result (List Kind) Misuse
 ignored_in None = Ok []
-ignored_in (Some word) = kinds_said word
+ignored_in (Some word) = kinds_said (slice_split (λ (b : ℕ). b == byte ",") word)
 
 -- without a file, those of a list alone
 abbrev pub files_in : Bool → Option (List Bytes) → Result (List Bytes) Misuse
@@ -94,7 +100,7 @@ pub record Asked : Type 0 where
   pub has_summary : Bool
 
 -- the entries, with the level, the ignored kinds and the files that they give; the first misuse counts
-abbrev pub asked_with : List Row → Result Severity Misuse → Result (List Bytes) Misuse → Result (List Bytes) Misuse → Result Asked Misuse
+abbrev pub asked_with : List Row → Result Severity Misuse → Result (List Kind) Misuse → Result (List Bytes) Misuse → Result Asked Misuse
 asked_with rows (Ok level) (Ok ignored) (Ok files) = Ok (record {
   files = files;
   reads_paths_from_input = is_given rows (codes "list");

@@ -1,26 +1,24 @@
 //! The words of the command line.
 
-ghost use Rattle.std.specs.Prelude.{◌≡◌, ℕ, ◌==◌, false, not, find, IfOk};
+ghost use Rattle.std.specs.Prelude.{◌≡◌, ℕ, ◌==◌, false, IfOk};
 ghost use Rattle.std.specs.List.{slice_split};
 ghost use Rattle.std.specs.Str.{byte};
 ghost use Rattle.clap.specs.Words.{all_of, app_of, found_of, rows_of, rule_of};
 ghost use Rattle.cli_base.specs.Arguments.{texts_of};
 ghost use Rattle.cli_base.specs.code.Answers.{text_of};
-ghost use Rattle.check_options.specs.CommandLine.{asked_by, asked_in, asks_of_findings, changes_output, files_in, files_rule, form_in, ignored_in, kinds_said, level_in, level_said, nccheck};
-ghost use Rattle.check_options.specs.KindWords.{is_kind_word};
+ghost use Rattle.check_options.specs.CommandLine.{asked_by, asked_in, asks_of_findings, changes_output, files_in, files_rule, form_in, ignored_in, kind_said, kinds_said, level_in, level_said, nccheck};
 ghost use Rattle.check_options.specs.Misuse.{misuse_in};
 ghost use Rattle.check_options.specs.code.Misuses.{RefusesBy, Says};
 ghost use Rattle.check_options.specs.code.Options.{asked_for, lent_texts, texts_in};
 
-use crate::kind_words::is_kind_word;
+use crate::kind_words::kind_named;
 use crate::misuse::{CommandFault, Misuse, misuse_in};
 use crate::options::{CheckOptions, Form};
-use check_lines::FilterOptions;
 use clap::error::ErrorKind;
 use clap::{Arg, ArgAction, ArgMatches, Command};
 use cli_base::{flag, is_given, option, value_of};
 use nc_base::Sequence;
-use nc_findings::Severity;
+use nc_findings::{Filter, Kind, Severity};
 use std::alloc::{AllocError, Global};
 
 /// Returns the command `nccheck [-q] [-s] [-j] [-p] [-k] [-0] [-l level] [-i kinds] [file ...]` of nccheck(1).
@@ -111,7 +109,7 @@ pub fn options_of<'a>(
         files: Sequence::from_vec(Vec::from_slice(alloc, files)?),
         reads_paths_from_input,
         tells_formats: is_given(matches, "formats"),
-        filter: FilterOptions { level, ignored },
+        filter: Filter { level, ignored },
         form: form_in(matches),
         is_quiet: is_given(matches, "quiet"),
         has_summary: is_given(matches, "summary"),
@@ -196,29 +194,14 @@ fn level_of<'a>(word: &'a str) -> Result<Severity, CommandFault<'a>>
     }
 }
 
-/// Returns the words of kinds in `word`, the value of `-i`, or no words if there is no value. Errs with `NoKind` if one of them isn't the
-/// word of a kind, and if an allocation failed.
-fn ignored_in<'a>(
-    alloc: Global,
-    word: Option<&'a str>,
-) -> Result<Sequence<&'a str>, CommandFault<'a>>
-    ensures { Says texts_of (ignored_in (text_of word.entry)) result }
+/// Returns the kinds that the parts of `word`, the value of `-i`, name, or no kinds if there is no value. Errs with `NoKind` for the first
+/// part that names none, and if an allocation failed.
+fn ignored_in<'a>(alloc: Global, word: Option<&'a str>) -> Result<Sequence<Kind>, CommandFault<'a>>
+    ensures { Says (λ kinds. kinds) (ignored_in (text_of word.entry)) result }
 {
     match word {
-        Some(word) => kinds_in(alloc, word),
+        Some(word) => kinds_in(alloc, parts_of(alloc, word)?.as_slice()),
         None => Ok(Sequence::new(alloc)),
-    }
-}
-
-/// Returns the parts of `word` between its commas. Errs with `NoKind` for the first that isn't the word of a kind, and if an allocation
-/// failed.
-fn kinds_in<'a>(alloc: Global, word: &'a str) -> Result<Sequence<&'a str>, CommandFault<'a>>
-    ensures { Says texts_of (kinds_said word.entry.now) result }
-{
-    let words = parts_of(alloc, word)?;
-    match first_no_kind(words.as_slice()) {
-        Some(part) => Err(Misuse::NoKind(part).into()),
-        None => Ok(words),
     }
 }
 
@@ -230,14 +213,24 @@ fn parts_of<'a>(alloc: Global, word: &'a str) -> Result<Sequence<&'a str>, Alloc
     Ok(Sequence::from_vec(word.split(',').collect(alloc)?))
 }
 
-/// Returns the first of the words that isn't the word of a kind of findings, such as `gap`.
-fn first_no_kind<'a>(words: &[&'a str]) -> Option<&'a str>
-    ensures { text_of result ≡ find (λ word. not (is_kind_word word)) (texts_of words.now) }
+/// Returns the kinds that these words name. Errs with `NoKind` for the first that names none, and if an allocation failed.
+#[tactic(auto, using(crate::proofs::KindLists::kind_lists))]
+fn kinds_in<'a>(alloc: Global, words: &[&'a str]) -> Result<Sequence<Kind>, CommandFault<'a>>
+    ensures { Says (λ kinds. kinds) (kinds_said (texts_of words.now)) result }
 {
+    let mut kinds = Sequence::new(alloc);
     for word in words {
-        if !is_kind_word(word) {
-            return Some(*word);
-        }
+        kinds.push(kind_of(word)?)?;
     }
-    None
+    Ok(kinds)
+}
+
+/// Returns the kind that `word` names. Errs with `NoKind` if it names none.
+fn kind_of<'a>(word: &'a str) -> Result<Kind, CommandFault<'a>>
+    ensures { Says (λ kind. kind) (kind_said word.entry.now) result }
+{
+    match kind_named(word) {
+        Some(kind) => Ok(kind),
+        None => Err(Misuse::NoKind(word).into()),
+    }
 }

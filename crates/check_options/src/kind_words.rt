@@ -1,9 +1,8 @@
 //! The words that name kinds.
 
 ghost use Rattle.std.specs.Prelude.{◌≡◌};
-ghost use Rattle.check_options.specs.KindWords.{EachWordNamesItsKind, is_kind_word};
+ghost use Rattle.check_options.specs.KindWords.{EachWordNamesItsKind, kind_named};
 
-use check_lines::kind_word;
 use nc_findings::Kind;
 
 /// All kinds of findings, in their order.
@@ -52,12 +51,12 @@ pub(crate) const KINDS: &[Kind] = &[
     Kind::Trailing,
 ];
 
-/// Returns true if `word` is the word of a kind of findings, such as `gap`. The clause `all` says that the word of each kind names that
-/// kind alone.
-#[tactic(auto, unfolding(crate::specs::KindWords::is_kind_word))]
-pub(crate) fn is_kind_word(word: &str) -> bool
-    ensures word { result ≡ is_kind_word word.now }
+/// Returns the kind of findings that has this word, such as `gap`, or `None` if none has. The clause `all` says that the word of each kind
+/// names that kind.
+#[tactic(auto, unfolding(crate::specs::KindWords::kind_named))]
+pub(crate) fn kind_named(word: &str) -> Option<Kind>
+    ensures kind { result ≡ kind_named word.now }
     ensures all { EachWordNamesItsKind }
 {
-    KINDS.iter().any(|kind| word == kind_word(*kind))
+    KINDS.iter().copied().find(|kind| word == kind.word())
 }

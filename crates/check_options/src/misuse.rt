@@ -71,8 +71,8 @@ pub(crate) fn misuse_in<'a>(words: &[&'a str]) -> Misuse<'a>
     }
 }
 
-/// Returns why a parse refuses these words: the first word that is no option, or else the first letter that stands twice, or else an
-/// option without its value.
+/// Returns why a parse refuses these words: the first word that is no option, or else an option that is given twice ([`first_twice`]), or
+/// else an option without its value.
 fn misuse_of<'a>(words: &[&'a str]) -> Misuse<'a>
     ensures { told result ≡ misuse_of (texts_of words.now) }
 {
@@ -98,7 +98,8 @@ fn first_no_option<'a>(words: &[&'a str]) -> Option<&'a str>
     None
 }
 
-/// Returns the first letter of an option that stands twice in the words before `--`.
+/// Returns the letter of an option that the words before `--` give more than once: of several, the first in [`OPTION_LETTERS`]. Returns
+/// `None` if there is none.
 fn first_twice(words: &[&str]) -> Option<u8>
     ensures { result ≡ first_twice (texts_of words.now) }
 {

@@ -1,7 +1,7 @@
 //! Which files to check, and what to report.
 
-use check_lines::FilterOptions;
 use nc_base::Sequence;
+use nc_findings::Filter;
 
 /// How the findings of a file are written to standard output.
 #[derive(Clone, Copy, Debug)]
@@ -24,7 +24,7 @@ pub struct CheckOptions<'a> {
     /// True if files aren't checked: a line tells the format of each ([`Version`](nc_base::Version)): `-k`.
     pub tells_formats: bool,
     /// Which findings to report.
-    pub filter: FilterOptions<'a>,
+    pub filter: Filter,
     /// How they are written to standard output.
     pub form: Form,
     /// True if no finding is written to standard output: `-q`.

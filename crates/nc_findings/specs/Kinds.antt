@@ -1,4 +1,6 @@
--- Definition. The kinds of findings, and how grave each is.
+-- Definition. The kinds of findings, how grave each is, and their words.
+use Rattle.std.specs.Prelude.{codes}
+use Rattle.nc_types.specs.Bytes.{Bytes}
 use Rattle.nc_base.specs.declared.fault.FormatFault.{FormatFault}
 use Rattle.nc_base.specs.declared.fault.FormatFault.TheVariants as fault
 use Rattle.nc_findings.specs.declared.layout_fact.LayoutFact.{LayoutFact}
@@ -87,3 +89,54 @@ severity_of HighRank = Violation
 severity_of Vsize = Violation
 severity_of Trailing = Violation
 severity_of kind = Error
+
+-- ---- their words
+
+unfoldable pub severity_word : Severity → Bytes
+severity_word Error = codes "error"
+severity_word Violation = codes "violation"
+severity_word Note = codes "note"
+
+unfoldable pub kind_word : Kind → Bytes
+kind_word NotNetcdf = codes "not-netcdf"
+kind_word Hdf5 = codes "hdf5"
+kind_word Hdf5Truncated = codes "hdf5-truncated"
+kind_word Gzip = codes "gzip"
+kind_word EmptyFile = codes "empty-file"
+kind_word UnknownVersion = codes "unknown-version"
+kind_word HeaderTruncated = codes "header-truncated"
+kind_word BadTag = codes "bad-tag"
+kind_word BadCount = codes "bad-count"
+kind_word BadName = codes "bad-name"
+kind_word NameCharacters = codes "name-characters"
+kind_word FloatingType = codes "floating-type"
+kind_word BadType = codes "bad-type"
+kind_word BadShape = codes "bad-shape"
+kind_word TwoRecordDims = codes "two-record-dims"
+kind_word TooLarge = codes "too-large"
+kind_word BadOffset = codes "bad-offset"
+kind_word LargeCount = codes "large-count"
+kind_word Streaming = codes "streaming"
+kind_word UnusedRecords = codes "unused-records"
+kind_word EmptyList = codes "empty-list"
+kind_word LongName = codes "long-name"
+kind_word DuplicateName = codes "duplicate-name"
+kind_word NotNfc = codes "not-nfc"
+kind_word Padding = codes "padding"
+kind_word EmptyAttribute = codes "empty-attribute"
+kind_word TrailingNul = codes "trailing-nul"
+kind_word FillValue = codes "fill-value"
+kind_word HighRank = codes "high-rank"
+kind_word Vsize = codes "vsize"
+kind_word OddVsize = codes "odd-vsize"
+kind_word LargeVariable = codes "large-variable"
+kind_word BeginInHeader = codes "begin-in-header"
+kind_word Overlap = codes "overlap"
+kind_word Unpadded = codes "unpadded"
+kind_word Order = codes "order"
+kind_word AfterRecords = codes "after-records"
+kind_word RecordPlace = codes "record-place"
+kind_word Gap = codes "gap"
+kind_word Missing = codes "missing"
+kind_word EndPadding = codes "end-padding"
+kind_word Trailing = codes "trailing"

@@ -24,8 +24,8 @@ pub enum Fact {
     EmptyFile,
     /// A name isn't valid, but shows that the fields are in step. The programs that read values stop there with `BadName`.
     NameCharacters,
-    /// A dimension's length, or the number of records, is 2^31 or more in CDF-1 or CDF-2, which has its top bit set. The programs that read
-    /// values stop there with `BadCount`.
+    /// A dimension's length, or the number of records, is 2^31 or more in CDF-1 or CDF-2: its top bit is 1. The programs that read values stop
+    /// there with `BadCount`.
     LargeCount,
     /// A list has its own tag, but no elements. (The tag of an empty list is written as 0.)
     EmptyList,

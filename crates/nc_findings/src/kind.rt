@@ -1,7 +1,7 @@
-//! The kinds of findings, and how grave each is.
+//! The kinds of findings: their words, and how grave each is.
 
 ghost use Rattle.std.specs.Prelude.{◌≡◌};
-ghost use Rattle.nc_findings.specs.Kinds.{kind_of, kind_of_fault, kind_of_layout, severity_of};
+ghost use Rattle.nc_findings.specs.Kinds.{kind_of, kind_of_fault, kind_of_layout, kind_word, severity_of, severity_word};
 
 use crate::finding::Fact;
 use crate::layout_fact::LayoutFact;
@@ -17,6 +17,20 @@ pub enum Severity {
     Violation,
     /// Values can't be had, or can't be trusted: the header can't be read on, values aren't in the file, or netCDF-C refuses to open it.
     Error,
+}
+
+impl Severity {
+    /// Returns the word of the severity, such as `note`.
+    #[tactic(auto, unfolding(crate::specs::Kinds::severity_word))]
+    pub fn word(self) -> &'static str
+        ensures { result.now ≡ severity_word self }
+    {
+        match self {
+            Severity::Error => "error",
+            Severity::Violation => "violation",
+            Severity::Note => "note",
+        }
+    }
 }
 
 /// The kinds of findings. Of those at one offset, a report has them in this order.
@@ -134,6 +148,57 @@ impl Kind {
             | Kind::Vsize
             | Kind::Trailing => Severity::Violation,
             _ => Severity::Error,
+        }
+    }
+
+    /// Returns the word of the kind, such as `bad-tag`. It never changes from one release to the next.
+    #[tactic(auto, unfolding(crate::specs::Kinds::kind_word))]
+    pub fn word(self) -> &'static str
+        ensures { result.now ≡ kind_word self }
+    {
+        match self {
+            Kind::NotNetcdf => "not-netcdf",
+            Kind::Hdf5 => "hdf5",
+            Kind::Hdf5Truncated => "hdf5-truncated",
+            Kind::Gzip => "gzip",
+            Kind::EmptyFile => "empty-file",
+            Kind::UnknownVersion => "unknown-version",
+            Kind::HeaderTruncated => "header-truncated",
+            Kind::BadTag => "bad-tag",
+            Kind::BadCount => "bad-count",
+            Kind::BadName => "bad-name",
+            Kind::NameCharacters => "name-characters",
+            Kind::FloatingType => "floating-type",
+            Kind::BadType => "bad-type",
+            Kind::BadShape => "bad-shape",
+            Kind::TwoRecordDims => "two-record-dims",
+            Kind::TooLarge => "too-large",
+            Kind::BadOffset => "bad-offset",
+            Kind::LargeCount => "large-count",
+            Kind::Streaming => "streaming",
+            Kind::UnusedRecords => "unused-records",
+            Kind::EmptyList => "empty-list",
+            Kind::LongName => "long-name",
+            Kind::DuplicateName => "duplicate-name",
+            Kind::NotNfc => "not-nfc",
+            Kind::Padding => "padding",
+            Kind::EmptyAttribute => "empty-attribute",
+            Kind::TrailingNul => "trailing-nul",
+            Kind::FillValue => "fill-value",
+            Kind::HighRank => "high-rank",
+            Kind::Vsize => "vsize",
+            Kind::OddVsize => "odd-vsize",
+            Kind::LargeVariable => "large-variable",
+            Kind::BeginInHeader => "begin-in-header",
+            Kind::Overlap => "overlap",
+            Kind::Unpadded => "unpadded",
+            Kind::Order => "order",
+            Kind::AfterRecords => "after-records",
+            Kind::RecordPlace => "record-place",
+            Kind::Gap => "gap",
+            Kind::Missing => "missing",
+            Kind::EndPadding => "end-padding",
+            Kind::Trailing => "trailing",
         }
     }
 }

@@ -3,6 +3,13 @@
 //! Everything here is about numbers: the begins and slabs of the variables, the number of records, the end of the header and the length of
 //! the file. [`sound_layout`] takes them from a header. Nothing reads a device, and no byte of a header or of a value is looked at.
 //! `specs/` has the definitions.
+//!
+//! ```
+//! match sound_layout(alloc, header, header_end, file_len)? {
+//!     Some(layout) => Ok(layout_findings(alloc, &layout)?.as_slice().len()),
+//!     None => Ok(0),
+//! }
+//! ```
 #![tactic(auto)]
 
 mod block_rules;

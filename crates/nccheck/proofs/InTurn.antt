@@ -56,12 +56,12 @@ module _ {P : Type 0} (o : Openings P) (a : Asked) where
 count_then : (first mid : Tally) (done more : List Answer) (after : Option Tally) → IsCount first done (Some mid) → IsCount mid more after
     → IsCount first (done ++ more) after
 count_then first mid done more (Some after) one two = grind (arith, one.0, one.1, two.0, two.1, fold-append, list_any-append)
-count_then first mid done more None one two = grind (arith, one.0, one.1, two.0, two.1, fold-append, list_any-append)
+count_then first mid done more None one two = grind (arith, one.1, two, list_any-append)
 
 -- after an answer that ends the run, a path was not checked
 pub ended_at : (t : Tally) (answer : Answer) → ends_run answer ≡ true → IsCount t (answer ∷ []) None
 ended_at t (Ok reported) ends = absurd cc
-ended_at t (Err fault) ends = (rw ends refl, grind arith)
+ended_at t (Err fault) ends = rw ends refl
 
 module _ {P : Type 0} {o : Openings P} {a : Asked} where
   pub counts_none : (now : State P) (tally : Tally) → Counts o a [] now now tally (Some tally)
@@ -98,6 +98,6 @@ module _ {P : Type 0} {o : Openings P} {a : Asked} where
       → Counts o a (items ++ others) old new tally None
   counts_stop {items} others {old} {new} c = record {
     answers = c.answers;
-    runs = runs_stop o a items others old new c.answers c.runs c.counts.0;
+    runs = runs_stop o a items others old new c.answers c.runs c.counts;
     counts = c.counts;
   }

@@ -1,5 +1,6 @@
 pub mod Prelude
 pub mod InTurn
 pub mod Listing
+pub mod Endings
 pub mod Openings
 pub mod Formats

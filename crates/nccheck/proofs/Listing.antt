@@ -1,11 +1,11 @@
 -- A run over a list whose bytes come part by part.
-use Rattle.nccheck.proofs.Prelude.{length-append, length-take-le, Bytes, HasFailed, ReaderView, Asked, Broken, Item, items_after, items_in, last_items, ListEnd, Path, Unread, Whole, MatchBool, Fails, has_ended, Openings, ReadsList, RunsFiles, State, Writes, counted, no_files, status_of, summary, Counts, CountsAll, CountsList, Gives, Takes, TakesItems, Tally, ◌≡◌, ℕ, ◌+◌, ◌<◌, ◌≤◌, ◌^◌, List, [], ◌∷◌, ◌++◌, ◌⊎◌, codes, inl, inr, refl, sym, ap, ◌∙◌, append_assoc, append-nil, length, take, ◌&&◌, not, map, Bool, true, false, Option, Some, None, IfSome, Err, arith, unwrap_or}
+use Rattle.nccheck.proofs.Prelude.{length-append, length-take-le, Bytes, HasFailed, ReaderView, Asked, Broken, Item, items_after, items_in, last_items, ListEnd, Path, Unread, Whole, MatchBool, Fails, Ending, Openings, ReadsList, RunsFiles, State, Writes, counted, no_files, status_of, summary, Counts, CountsAll, CountsList, Gives, Takes, TakesItems, Tally, ◌≡◌, ℕ, ◌+◌, ◌<◌, ◌≤◌, ◌^◌, List, [], ◌∷◌, ◌++◌, ◌⊎◌, codes, inl, inr, refl, sym, ap, ◌∙◌, append_assoc, append-nil, length, take, map, Bool, true, false, Option, Some, None, IfSome, Err, arith, unwrap_or}
 use Rattle.std.specs.Io.KnownBytes.{Consumes}
 use Rattle.std.proofs.KnownBytes.{Consumes-all, Consumes-kept, Consumes-nil, Consumes-trans}
 use Rattle.devices.specs.Uses.{Use}
 use Rattle.devices.specs.code.ReaderReads.{HandedOver, NoneHandedOver}
 use Rattle.nccheck.specs.declared.fault.FileFault.TheVariants.{ReadFailed}
-use Rattle.nccheck.proofs.InTurn.{counts_none, counts_one, counts_stop, counts_then, either}
+use Rattle.nccheck.proofs.InTurn.{counts_none, counts_one, counts_stop, counts_then}
 
 -- ---- the bytes of a list
 
@@ -209,7 +209,7 @@ module _ {P : Type 0} {o : Openings P} {a : Asked} where
 
   -- none, where a fault has ended the run
   pub runs_stopped : {input : Use ReaderView} {old new : State P} → CountsAll o a input.before input.after old new None
-      → RunsFiles o a input old new 2
+      → RunsFiles o a input old new None
   runs_stopped {new = new} c = record {
     listed = c.items;
     reads = c.reads;
@@ -217,28 +217,27 @@ module _ {P : Type 0} {o : Openings P} {a : Asked} where
     mid = new;
     runs = c.counts.runs;
     opener = refl;
-    ends = either (a.has_summary && not (has_ended c.counts.answers)) (λ yes. absurd (grind (arith, yes, c.counts.counts.0)))
-        (λ no. (refl, sym c.counts.counts.1));
+    ends = rw c.counts.counts (refl, refl);
   }
 
   -- none, where it isn't asked for
-  pub runs_silent : {input : Use ReaderView} {old new : State P} {tally : Tally} {status : ℕ}
+  pub runs_silent : {input : Use ReaderView} {old new : State P} {tally : Tally}
       → CountsAll o a input.before input.after old new (Some tally)
-      → a.has_summary ≡ false → status ≡ status_of tally → RunsFiles o a input old new status
-  runs_silent {new = new} c none is = record {
+      → a.has_summary ≡ false → RunsFiles o a input old new (Some (status_of tally))
+  runs_silent {new = new} c none = record {
     listed = c.items;
     reads = c.reads;
     answers = c.counts.answers;
     mid = new;
     runs = c.counts.runs;
     opener = refl;
-    ends = rw none (refl, is ∙ ap status_of c.counts.counts.0);
+    ends = rw (none, c.counts.counts.1) (refl, ap (λ (tally : Tally). Some (status_of tally)) c.counts.counts.0);
   }
 
-  pub runs_counted : {input : Use ReaderView} {old mid new : State P} {tally : Tally} {status : ℕ}
+  pub runs_counted : {input : Use ReaderView} {old mid new : State P} {tally : Tally} {ending : Ending}
       → CountsAll o a input.before input.after old mid (Some tally)
-      → a.has_summary ≡ true → new.opener ≡ mid.opener → Writes (summary a.form tally) mid new (status_of tally) status
-      → RunsFiles o a input old new status
+      → a.has_summary ≡ true → new.opener ≡ mid.opener → Writes (summary a.form tally) mid new (status_of tally) ending
+      → RunsFiles o a input old new ending
   runs_counted {mid = mid} c some same writes = record {
     listed = c.items;
     reads = c.reads;

@@ -10,7 +10,7 @@ pub use Rattle.check_options.specs.CommandLine.{Asked}
 pub use Rattle.check_options.specs.code.Options.{asked_for}
 pub use Rattle.nccheck.specs.PathLists.{Broken, Item, ListEnd, Path, Unread, Whole, items_after, items_in, last_items}
 unfoldable pub use Rattle.nccheck.specs.PathLists.{path_fault}
-pub use Rattle.nccheck.specs.Runs.{ChecksItem, Fails, IsTold, Openings, OpensFile, ReadsList, RunsFiles, RunsOver, State, Writes, ends_run, has_ended, openings, state}
+pub use Rattle.nccheck.specs.Runs.{ChecksItem, Ending, Fails, IsTold, Openings, OpensFile, ReadsList, RunsFiles, RunsOver, State, Writes, ends_run, has_ended, openings, state}
 pub use Rattle.nccheck.specs.Tallies.{Answer, counted, no_files, status_of, summary, total}
 pub use Rattle.nccheck.specs.code.Counts.{Counts, CountsAll, CountsList, Gives, IsCount, Takes, TakesItems}
 pub use Rattle.nccheck.specs.declared.{fault.FileFault.FileFault, tally.Tally.Tally}

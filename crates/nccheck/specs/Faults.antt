@@ -1,5 +1,6 @@
 -- Definition. The faults of a run, and the lines that tell them.
 use Rattle.std.specs.Prelude.{[], ◌∷◌, ◌++◌, codes, Option, Some, None}
+use Rattle.std.specs.Str.{byte}
 use Rattle.nc_types.specs.Bytes.{Bytes, concat_parts}
 use Rattle.devices.specs.declared.fault.OpenFailed.{OpenFailed}
 use Rattle.devices.specs.declared.fault.OpenFailed.TheVariants.{NotFound, PermissionDenied, NotRegular, Other}
@@ -85,7 +86,7 @@ misuse_words NoFile = codes "no file"
 
 unfoldable pub misuse_text : Misuse → Bytes
 misuse_text (NoOption word) = concat_parts (misuse_words (NoOption word) ∷ shown_path word ∷ [])
-misuse_text (GivenTwice letter) = concat_parts (codes "-" ∷ (letter ∷ []) ∷ misuse_words (GivenTwice letter) ∷ [])
+misuse_text (GivenTwice letter) = concat_parts ((byte "-" ∷ letter ∷ []) ∷ misuse_words (GivenTwice letter) ∷ [])
 misuse_text (NoLevel word) = concat_parts (misuse_words (NoLevel word) ∷ shown_path word ∷ [])
 misuse_text (NoKind word) = concat_parts (misuse_words (NoKind word) ∷ shown_path word ∷ [])
 misuse_text misuse = misuse_words misuse

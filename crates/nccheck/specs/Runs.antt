@@ -1,5 +1,5 @@
 -- Definition. What a run of the program has done.
-use Rattle.std.specs.Prelude.{ℕ, ◌≡◌, ◌+◌, ◌^◌, ◌≤◌, ◌⊎◌, ◌&&◌, not, Bool, true, false, if◌then◌else◌, List, [], ◌∷◌, ◌++◌, codes, length, map, Option, Some, None, is_some, IfSome, IsOkAnd, IsSomeAnd, MatchBool, MatchOption, Result, Ok, Err}
+use Rattle.std.specs.Prelude.{ℕ, ◌≡◌, ◌+◌, ◌^◌, ◌≤◌, ◌⊎◌, Bool, true, false, if◌then◌else◌, List, [], ◌∷◌, ◌++◌, codes, length, map, Option, Some, None, is_some, IfSome, IsOkAnd, IsSomeAnd, MatchBool, MatchOption, Result, Ok, Err, unwrap_or}
 use Rattle.std.specs.Bool.{OnTrue}
 use Rattle.std.specs.Io.KnownBytes.{Consumes}
 use Rattle.std.specs.List.{list_any}
@@ -12,9 +12,9 @@ use Rattle.devices.specs.Uses.{Use}
 use Rattle.devices.specs.declared.fault.OpenFailed.TheVariants.{NotFound}
 use Rattle.nc_report.specs.Reports.{IsReport}
 use Rattle.nc_findings.specs.declared.listing.Listing.{Listing}
-use Rattle.nc_findings.specs.declared.{finding.Finding.Finding, report.Report.Report}
+use Rattle.nc_findings.specs.declared.{filter.Filter.Filter, finding.Finding.Finding, report.Report.Report}
 use Rattle.check_lines.specs.Json.{json_lines}
-use Rattle.check_lines.specs.Lines.{Filter, gravest, lines}
+use Rattle.check_lines.specs.Lines.{gravest, lines}
 use Rattle.check_options.specs.CommandLine.{Asked, asked_by}
 use Rattle.check_options.specs.Misuse.{Misuse}
 use Rattle.check_options.specs.declared.options.Form.{Form}
@@ -183,12 +183,15 @@ RunsOver o a (item ∷ items) old new answers = ChecksFirst o a item old new ans
 abbrev pub has_ended : List Answer → Bool
 has_ended answers = list_any ends_run answers
 
+-- how a run ends before the last flush: with a status, or since standard output has failed, which was told
+abbrev pub Ending : Type 0
+Ending = Option ℕ
+
 -- the text was written to standard output after the run had this status; if that failed, the line of a failure was written to standard
--- error, or a prefix of it, and the status is 2
-abbrev pub Writes : {P : Type 0} → Bytes → State P → State P → ℕ → ℕ → Type 0
-Writes text mid new before status =
-    (Appended mid.out new.out text × (new.err ≡ mid.err) × (status ≡ before))
-    ⊎ (FailedPartway mid.out new.out text × IsTold mid.err new.err flush_line × (status ≡ 2))
+-- error, or a prefix of it
+abbrev pub Writes : {P : Type 0} → Bytes → State P → State P → ℕ → Ending → Type 0
+Writes text mid new before (Some status) = Appended mid.out new.out text × (new.err ≡ mid.err) × (status ≡ before)
+Writes text mid new before None = FailedPartway mid.out new.out text × IsTold mid.err new.err flush_line
 
 -- ---- the list on standard input
 
@@ -207,50 +210,63 @@ pub record ReadsList (old new : ReaderView) (items : List Item) : Type 0 where
 
 -- all paths of the words, and then the items of the list if it is asked for, were checked in turn, up to one whose fault ends the run; if
 -- there was none, and it is asked for, a line says what came of them, or a prefix of it if standard output fails
-pub record RunsFiles {P : Type 0} (o : Openings P) (a : Asked) (input : Use ReaderView) (old new : State P) (status : ℕ) : Type 0 where
+pub record RunsFiles {P : Type 0} (o : Openings P) (a : Asked) (input : Use ReaderView) (old new : State P) (ending : Ending) : Type 0 where
   pub listed : List Item
   pub reads : MatchBool a.reads_paths_from_input (ReadsList input.before input.after listed) ((input.after ≡ input.before) × (listed ≡ []))
   pub answers : List Answer
   pub mid : State P
   pub runs : RunsOver o a (map Path a.files ++ listed) old mid answers
   pub opener : new.opener ≡ mid.opener
-  pub ends : MatchBool (a.has_summary && not (has_ended answers))
-      (Writes (summary a.form (tally_of answers)) mid new (status_of (tally_of answers)) status)
-      ((new ≡ mid) × (status ≡ status_of (tally_of answers)))
+  pub ends : MatchBool (has_ended answers) ((new ≡ mid) × (ending ≡ None))
+      (MatchBool a.has_summary
+      (Writes (summary a.form (tally_of answers)) mid new (status_of (tally_of answers)) ending)
+      ((new ≡ mid) × (ending ≡ Some (status_of (tally_of answers)))))
 
 -- ---- the whole run
 
 -- nothing was opened, read or written, but the lines of a command line that is misused, or for which memory ran out, to standard error, or
 -- a prefix of them
-pub record RefusesWords {P : Type 0} (asked : Result Asked Misuse) (input : Use ReaderView) (old new : State P) (status : ℕ) : Type 0 where
+pub record RefusesWords {P : Type 0} (asked : Result Asked Misuse) (input : Use ReaderView) (old new : State P) (ending : Ending) : Type 0 where
   pub misuse : Option Misuse
   pub is : IfSome misuse (λ why. asked ≡ Err why)
   pub unread : input.after ≡ input.before
   pub opener : new.opener ≡ old.opener
   pub out : new.out ≡ old.out
   pub tells : IsTold old.err new.err (refusal_lines misuse)
-  pub trouble : status ≡ 2
+  pub trouble : ending ≡ Some 2
 
 -- the words were refused, or the paths that they name were checked
-abbrev pub RunsAsked : {P : Type 0} → Openings P → Result Asked Misuse → Use ReaderView → State P → State P → ℕ → Type 0
-RunsAsked o asked input old new status =
-    RefusesWords asked input old new status ⊎ IsOkAnd asked (λ a. RunsFiles o a input old new status)
+abbrev pub RunsAsked : {P : Type 0} → Openings P → Result Asked Misuse → Use ReaderView → State P → State P → Ending → Type 0
+RunsAsked o asked input old new ending =
+    RefusesWords asked input old new ending ⊎ IsOkAnd asked (λ a. RunsFiles o a input old new ending)
 
 -- what the program tells of itself was written, and nothing was opened or read
-pub record Informs {P : Type 0} (info : Info) (input : Use ReaderView) (old new : State P) (status : ℕ) : Type 0 where
+pub record Informs {P : Type 0} (info : Info) (input : Use ReaderView) (old new : State P) (ending : Ending) : Type 0 where
   pub unread : input.after ≡ input.before
   pub opener : new.opener ≡ old.opener
-  pub writes : Writes (info_text info) old new 0 status
+  pub writes : Writes (info_text info) old new 0 ending
 
 -- `-V` or `-h` among the words was answered, whatever else is there; without them, what the words ask for was done
-abbrev pub RunsWords : {P : Type 0} → Openings P → List Bytes → Use ReaderView → State P → State P → ℕ → Type 0
-RunsWords o words input old new status =
-    MatchOption (info_in words) (RunsAsked o (asked_by words) input old new status) (λ info. Informs info input old new status)
+abbrev pub RunsWords : {P : Type 0} → Openings P → List Bytes → Use ReaderView → State P → State P → Ending → Type 0
+RunsWords o words input old new ending =
+    MatchOption (info_in words) (RunsAsked o (asked_by words) input old new ending) (λ info. Informs info input old new ending)
+
+-- standard output was flushed after a run that ended in the first way, and so it ends in the second; of a failure that was told before,
+-- nothing more is told
+abbrev pub Flushes : {P : Type 0} → State P → State P → Ending → Ending → Type 0
+Flushes mid new (Some before) after = Writes [] mid new before after
+Flushes mid new None after = IsTold mid.out new.out [] × (new.err ≡ mid.err) × (after ≡ None)
+
+-- the status of a run that ends in this way
+abbrev pub ending_status : Ending → ℕ
+ending_status ending = unwrap_or ending 2
 
 -- the run, and then the flush of standard output
 pub record Runs {P : Type 0} (o : Openings P) (words : List Bytes) (input : Use ReaderView) (old new : State P) (status : ℕ) : Type 0 where
   pub mid : State P
-  pub before : ℕ
+  pub before : Ending
+  pub after : Ending
   pub runs : RunsWords o words input old mid before
   pub opener : new.opener ≡ mid.opener
-  pub flushes : Writes [] mid new before status
+  pub flushes : Flushes mid new before after
+  pub is : status ≡ ending_status after

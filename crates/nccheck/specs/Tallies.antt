@@ -3,10 +3,10 @@ use Rattle.std.specs.Prelude.{ℕ, ◌+◌, Bool, true, false, nat_lt, if◌then
 use Rattle.nc_types.specs.Bytes.{Bytes, concat_parts}
 use Rattle.std.specs.List.{list_any}
 use Rattle.nc_findings.specs.Kinds.{kind_of}
-use Rattle.nc_findings.specs.declared.{finding.Finding.Finding, kind.Kind.Kind}
+use Rattle.nc_findings.specs.declared.{filter.Filter.Filter, finding.Finding.Finding, kind.Kind.Kind}
 use Rattle.nc_findings.specs.declared.kind.Kind.TheVariants.{Hdf5, Gzip}
 use Rattle.nc_findings.specs.declared.kind.Severity.TheVariants.{Error, Violation, Note}
-use Rattle.check_lines.specs.Lines.{Filter, gravest}
+use Rattle.check_lines.specs.Lines.{gravest}
 use Rattle.check_options.specs.declared.options.Form.{Form}
 use Rattle.check_options.specs.declared.options.Form.TheVariants.{Objects}
 use Rattle.nccheck.specs.declared.{fault.FileFault.FileFault, tally.Outcome.Outcome, tally.SummaryCount.SummaryCount, tally.Tally.Tally}

@@ -6,7 +6,7 @@ ghost use Rattle.devices.specs.code.PathOpens.{NamesAsBefore};
 ghost use Rattle.devices.specs.code.SinkWrites.{Wrote};
 ghost use Rattle.check_options.specs.code.Options.{asked_for};
 ghost use Rattle.nccheck.specs.PathLists.{Path};
-ghost use Rattle.nccheck.specs.Runs.{ChecksBytes, ChecksItem, ChecksNamed, ChecksPath, ends_run, OpensFile, openings, Reports, shown, state, written, WriteFailsOnly};
+ghost use Rattle.nccheck.specs.Runs.{ChecksBytes, ChecksItem, ChecksNamed, ends_run, OpensFile, openings, Reports, shown, state, written, WriteFailsOnly};
 ghost use Rattle.nccheck.specs.code.OpenedFiles.{ReadsOpened};
 
 use crate::fault::FileFault;
@@ -38,36 +38,12 @@ pub(crate) fn check_item<P: Opener, O: Sink, E: Sink>(
         (state O.view E.view opener.new out.new err.new) result }
     ensures names { NamesAsBefore (P.named opener.old) (P.named opener.new) }
 {
-    match path_of(file) {
-        Ok(path) => check_and_tell(opener, alloc, path, options, out, err),
-        Err(why) => {
-            let fault = FileFault::BadPath(why);
-            let _ = put_file_fault(err, file, fault);
-            Err(fault)
-        }
-    }
-}
-
-/// Returns what [`check_file`] does. If that is an error, also writes its line to `err`, such as `nccheck: a.nc: read failed`, and passes
-/// over a failure of `err`.
-#[tactic(auto, using(crate::proofs::InTurn::is_told))]
-fn check_and_tell<P: Opener, O: Sink, E: Sink>(
-    opener: &mut P,
-    alloc: Global,
-    file: &str,
-    options: &CheckOptions<'_>,
-    out: &mut O,
-    err: &mut E,
-) -> Result<Outcome, FileFault>
-    ensures checks { ChecksPath
-        (openings P.Source.is_transparent (P.named opener.old) P.view) (asked_for options.now)
-        file.now (state O.view E.view opener.old out.old err.old)
-        (state O.view E.view opener.new out.new err.new) result }
-    ensures names { NamesAsBefore (P.named opener.old) (P.named opener.new) }
-{
-    let answer = check_file(opener, alloc, file, options, out);
+    let answer = match path_of(file) {
+        Ok(path) => check_file(opener, alloc, path, options, out),
+        Err(why) => Err(FileFault::BadPath(why)),
+    };
     if let Err(fault) = answer {
-        let _ = put_file_fault(err, file.as_bytes(), fault);
+        let _ = put_file_fault(err, file, fault);
     }
     answer
 }
@@ -77,10 +53,7 @@ fn check_and_tell<P: Opener, O: Sink, E: Sink>(
 pub(crate) fn ends_run(answer: Result<Outcome, FileFault>) -> bool
     ensures { result ≡ ends_run answer }
 {
-    match answer {
-        Err(FileFault::WriteFailed) => true,
-        Err(_) | Ok(_) => false,
-    }
+    matches!(answer, Err(FileFault::WriteFailed))
 }
 
 /// Opens the file at the path `file`, checks it, writes the lines of its findings to `out` as the options ask, and closes it. Returns what

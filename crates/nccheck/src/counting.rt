@@ -1,7 +1,6 @@
 //! The files of a run, checked in turn and counted: those of the words, and then those of a list.
 
 ghost use Rattle.std.specs.Prelude.{◌≡◌, ◌+◌, ◌<◌, ◌≤◌, ◌^◌, [], ◌∷◌, codes, length, map, option_map, IfSome};
-ghost use Rattle.cli_base.specs.Arguments.{texts_of};
 ghost use Rattle.devices.specs.Readers.{view_of};
 ghost use Rattle.devices.specs.code.PathOpens.{NamesAsBefore};
 ghost use Rattle.check_options.specs.code.Options.{asked_for};

@@ -131,8 +131,7 @@ fn put_misuse<W: Sink>(sink: &mut W, why: Misuse<'_>) -> Result<(), WriteFailed>
             put_file_path(sink, word.as_bytes())
         }
         Misuse::GivenTwice(letter) => {
-            put(sink, b"-")?;
-            put(sink, &[letter])?;
+            put(sink, &[b'-', letter])?;
             put(sink, misuse_words(why))
         }
         _ => put(sink, misuse_words(why)),

@@ -1,6 +1,6 @@
 //! A run of the program.
 
-ghost use Rattle.std.specs.Prelude.{◌≡◌, ◌≤◌, true};
+ghost use Rattle.std.specs.Prelude.{◌≡◌, ◌≤◌, true, IfSome};
 ghost use Rattle.cli_base.specs.Arguments.{texts_of};
 ghost use Rattle.devices.specs.Readers.{view_of};
 ghost use Rattle.devices.specs.Uses.{use_of};
@@ -8,6 +8,7 @@ ghost use Rattle.check_options.specs.CommandLine.{asked_by};
 ghost use Rattle.check_options.specs.code.Options.{asked_for};
 ghost use Rattle.nccheck.specs.Info.{info_text};
 ghost use Rattle.nccheck.specs.Runs.{openings, Runs, RunsAsked, RunsFiles, RunsWords, state, Writes};
+ghost use Rattle.nccheck.specs.code.Endings.{EndsAfter};
 
 use crate::counting::check_all;
 use crate::fault_text::{put_flush_fault, put_refusal};
@@ -25,9 +26,9 @@ use std::io::Read;
 /// standard input can't be read, if standard output fails, or if an allocation fails; a line on standard error says so. Otherwise it is 1
 /// if something was reported of a file, and 0 if nothing was, or if the words ask for the version or for help. Files are checked in the
 /// order of the words, and then in that of the list, which is read only if the words ask for that. After a file that can't be opened or
-/// read, or for which an allocation fails, the run goes on with the next one; a failure of standard output ends it. Standard output is
-/// flushed in any case. Standard error is not flushed.
-#[tactic(auto, using(crate::proofs::InTurn::is_told))]
+/// read, or for which an allocation fails, the run goes on with the next one; a failure of standard output ends it, and is told once.
+/// Standard output is flushed in any case. Standard error is not flushed.
+#[tactic(auto, using(crate::proofs::Endings::endings))]
 pub fn run_with<P: Opener, R: Read, O: Flush, E: Sink>(
     opener: &mut P,
     alloc: Global,
@@ -46,17 +47,30 @@ pub fn run_with<P: Opener, R: Read, O: Flush, E: Sink>(
     ensures flushed { result ≤ 1 → O.is_flushed out.new ≡ true }
 {
     let status = run_words(opener, alloc, words, input, out, err);
-    match out.flush() {
-        Ok(()) => status,
+    let flushed = out.flush();
+    match status {
+        Some(status) => status_after(flushed, status, err).unwrap_or(TROUBLE),
+        None => TROUBLE,
+    }
+}
+
+/// Returns `status`, if standard output took what was `written`. Otherwise writes the line of a failure to `err`, passes over a failure of
+/// `err`, and returns `None`.
+#[tactic(auto, using(crate::proofs::InTurn::is_told))]
+fn status_after<F: Drop, E: Sink>(written: Result<(), F>, status: u8, err: &mut E) -> Option<u8>
+    ensures { EndsAfter (E.view err.old) (E.view err.new) written status result }
+{
+    match written {
+        Ok(()) => Some(status),
         Err(_) => {
             let _ = put_flush_fault(err);
-            TROUBLE
+            None
         }
     }
 }
 
-/// Does what the words ask for: writes the version or the help, or checks files. Returns the exit status, from 0 to 2. Flushes nothing.
-#[tactic(auto, using(crate::proofs::InTurn::is_told))]
+/// Does what the words ask for: writes the version or the help, or checks files. Returns the exit status, from 0 to 2, or `None` if `out`
+/// failed, which `err` was told. Flushes nothing.
 fn run_words<P: Opener, R: Read, O: Sink, E: Sink>(
     opener: &mut P,
     alloc: Global,
@@ -64,14 +78,14 @@ fn run_words<P: Opener, R: Read, O: Sink, E: Sink>(
     input: &mut CountedRead<R>,
     out: &mut O,
     err: &mut E,
-) -> u8
+) -> Option<u8>
     ensures runs { RunsWords
         (openings P.Source.is_transparent (P.named opener.old) P.view)
         (texts_of words.now)
         (use_of (view_of R.remaining) input.old input.new)
         (state O.view E.view opener.old out.old err.old)
         (state O.view E.view opener.new out.new err.new) result }
-    ensures status { result ≤ 2 }
+    ensures status { IfSome result (λ status. status ≤ 2) }
 {
     match info_in(words) {
         Some(info) => inform(info, out, err),
@@ -79,20 +93,15 @@ fn run_words<P: Opener, R: Read, O: Sink, E: Sink>(
     }
 }
 
-/// Writes the version or the help to `out`, and returns the exit status 0. If `out` fails, writes a line to `err`, and returns 2.
-#[tactic(auto, using(crate::proofs::InTurn::is_told))]
-fn inform<O: Sink, E: Sink>(info: Info, out: &mut O, err: &mut E) -> u8
+/// Writes the version or the help to `out`, and returns the exit status 0. If `out` fails, writes a line to `err`, and returns `None`.
+#[tactic(auto, using(crate::proofs::Endings::endings))]
+fn inform<O: Sink, E: Sink>(info: Info, out: &mut O, err: &mut E) -> Option<u8>
     ensures writes { Writes (info_text info)
         (state O.view E.view (tt {0}) out.old err.old) (state O.view E.view tt out.new err.new) 0 result }
-    ensures status { result ≤ 2 }
+    ensures status { IfSome result (λ status. status ≤ 2) }
 {
-    match put_info(out, info) {
-        Ok(()) => CLEAN,
-        Err(_) => {
-            let _ = put_flush_fault(err);
-            TROUBLE
-        }
-    }
+    let written = put_info(out, info);
+    status_after(written, CLEAN, err)
 }
 
 /// Checks the files that the words name, and returns the exit status ([`check_files`]). If the words are misused, or an allocation failed
@@ -105,27 +114,27 @@ fn check_for_words<P: Opener, R: Read, O: Sink, E: Sink>(
     input: &mut CountedRead<R>,
     out: &mut O,
     err: &mut E,
-) -> u8
+) -> Option<u8>
     ensures runs { RunsAsked
         (openings P.Source.is_transparent (P.named opener.old) P.view)
         (asked_by (texts_of words.now))
         (use_of (view_of R.remaining) input.old input.new)
         (state O.view E.view opener.old out.old err.old)
         (state O.view E.view opener.new out.new err.new) result }
-    ensures status { result ≤ 2 }
+    ensures status { IfSome result (λ status. status ≤ 2) }
 {
     match options_of_words(alloc, words) {
         Ok(options) => check_files(opener, alloc, &options, input, out, err),
         Err(fault) => {
             let _ = put_refusal(err, fault);
-            TROUBLE
+            Some(TROUBLE)
         }
     }
 }
 
 /// Checks the files of the options, with those whose paths `input` has if the options ask for that (`-0`), and returns the exit status:
-/// that of [`Tally::status`](crate::tally::Tally::status), or 2 if `out` failed, which ends the run. If the options ask for it (`-s`), and the
-/// run wasn't ended so, writes a line that counts the files to `out`; if that fails, writes a line to `err`, and returns 2.
+/// that of [`Tally::status`](crate::tally::Tally::status), or `None` if `out` failed, which ends the run, and which `err` was told. If the
+/// options ask for it (`-s`), and the run wasn't ended so, writes a line that counts the files to `out`.
 fn check_files<P: Opener, R: Read, O: Sink, E: Sink>(
     opener: &mut P,
     alloc: Global,
@@ -133,27 +142,18 @@ fn check_files<P: Opener, R: Read, O: Sink, E: Sink>(
     input: &mut CountedRead<R>,
     out: &mut O,
     err: &mut E,
-) -> u8
+) -> Option<u8>
     ensures runs { RunsFiles
         (openings P.Source.is_transparent (P.named opener.old) P.view) (asked_for options.now)
         (use_of (view_of R.remaining) input.old input.new)
         (state O.view E.view opener.old out.old err.old)
         (state O.view E.view opener.new out.new err.new) result }
-    ensures status { result ≤ 2 }
+    ensures status { IfSome result (λ status. status ≤ 2) }
 {
-    match check_all(opener, alloc, options, input, out, err) {
-        None => TROUBLE,
-        Some(tally) => {
-            if !options.has_summary {
-                return tally.status();
-            }
-            match put_summary(out, options.form, tally) {
-                Ok(()) => tally.status(),
-                Err(_) => {
-                    let _ = put_flush_fault(err);
-                    TROUBLE
-                }
-            }
-        }
+    let tally = check_all(opener, alloc, options, input, out, err)?;
+    if !options.has_summary {
+        return Some(tally.status());
     }
+    let written = put_summary(out, options.form, tally);
+    status_after(written, tally.status(), err)
 }

@@ -3,12 +3,12 @@
 ghost use Rattle.std.specs.Prelude.{◌≡◌, ◌+◌, ◌<◌, ◌^◌};
 ghost use Rattle.devices.specs.code.SinkWrites.{Wrote};
 ghost use Rattle.nccheck.specs.Tallies.{checked, count_text, count_words, counted, has_other_format, is_other_format, member_text, member_words, no_files, outcome_of, reported_members, reported_text, status_of, summary, summary_line, summary_object, total};
-ghost use Rattle.check_lines.specs.code.Filters.{filter_for};
 
 use crate::fault::FileFault;
-use check_lines::{FilterOptions, gravest};
+use check_lines::gravest;
 use check_options::Form;
 use devices::{Sink, WriteFailed, put, put_decimal};
+use nc_findings::Filter;
 use nc_report::{Kind, Report, Severity};
 
 /// The status of a run in which nothing was reported of any file.
@@ -32,8 +32,8 @@ pub(crate) enum Outcome {
 }
 
 /// Returns what came of a file with this report, if what the filter lets is reported.
-pub(crate) fn outcome_of(report: &Report, filter: &FilterOptions<'_>) -> Outcome
-    ensures { result ≡ outcome_of (filter_for filter.now) report.now.findings }
+pub(crate) fn outcome_of(report: &Report, filter: &Filter) -> Outcome
+    ensures { result ≡ outcome_of filter.now report.now.findings }
 {
     match gravest(report, filter) {
         Some(severity) => Outcome::Reported(severity),
@@ -109,8 +109,8 @@ impl Tally {
         tally
     }
 
-    /// Returns how many classic files were checked, whatever was reported of them, and files of which it was reported that they are none.
-    /// Needs fewer than 2^128 files in the tally.
+    /// Returns how many of these files were checked. A file of another format is one of them if something was reported of it, and otherwise
+    /// is one of `other_formats`. Needs fewer than 2^128 files in the tally.
     fn checked(self) -> u128
         requires { total self < 2 ^ 128 }
         ensures { result ≡ checked self }

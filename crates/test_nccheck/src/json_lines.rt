@@ -1,10 +1,11 @@
 //! The JSON objects of what is found in files.
 
 use crate::runs::{lines_with, words_of};
-use check_lines::{FilterOptions, put_json_lines};
+use check_lines::put_json_lines;
 use devices::{MemSource, SliceSink};
 use nc_base::Sequence;
 use nc_fields::ListFault;
+use nc_findings::Filter;
 use nc_report::{Report, Severity, check};
 use std::alloc::Global;
 use std::process::Abort;
@@ -105,7 +106,7 @@ c3a92ee282ac2ef09f8c8a|é.€.🌊
 "#;
 
 /// Returns true if a sink with room for so many bytes takes as many of these objects as fit.
-fn are_put(file: &[u8], report: &Report, filter: &FilterOptions, want: &[u8], room: usize) -> bool {
+fn are_put(file: &[u8], report: &Report, filter: &Filter, want: &[u8], room: usize) -> bool {
     let mut space = [0; 1024];
     let room = room.min(space.len());
     let mut sink = SliceSink::new(&mut space[..room], 7);
@@ -122,7 +123,7 @@ fn expect_objects(
     objects: &str,
 ) -> Result<(), ListFault> {
     let report = check(alloc, &mut MemSource::new(bytes), &mut [0; 64])?;
-    let filter = FilterOptions {
+    let filter = Filter {
         level: Severity::Note,
         ignored: Sequence::new(alloc),
     };

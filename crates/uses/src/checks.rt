@@ -1,12 +1,14 @@
 //! Checks of files.
 
-use check_lines::{FilterOptions, put_lines};
+use check_lines::put_lines;
 use devices::{CountedRead, Flush, MemSink, Opener, Sink, Source, WriteFailed};
-use nc_base::Sequence;
+use nc_base::{Header, Sequence};
 use nc_fields::{ListFault, list_fields};
+use nc_findings::Filter;
+use nc_layout::{layout_findings, sound_layout};
 use nc_report::{Report, Severity, check};
 use nccheck::run_with;
-use std::alloc::Global;
+use std::alloc::{AllocError, Global};
 
 /// The example of `nc_fields`. Returns how many fields the header of the source has, up to the first wrong one. Errs if the source or an
 /// allocation fails.
@@ -14,6 +16,20 @@ pub fn count_fields<S: Source>(alloc: Global, source: &mut S) -> Result<usize, L
     let mut buf = [0; 4096];
     let listing = list_fields(alloc, source, &mut buf)?;
     Ok(listing.entries.len())
+}
+
+/// The example of `nc_layout`. Returns how many findings about the layout there are in a file of `file_len` bytes with this header, which
+/// ends at the offset `header_end`, or 0 if the layout isn't sound. Errs if an allocation fails.
+pub fn count_layout_findings(
+    alloc: Global,
+    header: &Header,
+    header_end: u64,
+    file_len: u64,
+) -> Result<usize, AllocError> {
+    match sound_layout(alloc, header, header_end, file_len)? {
+        Some(layout) => Ok(layout_findings(alloc, &layout)?.as_slice().len()),
+        None => Ok(0),
+    }
 }
 
 /// The example of `nc_report`. Returns how many errors are found in the file that the source holds. Errs if the source or an allocation
@@ -28,7 +44,7 @@ pub fn count_errors<S: Source>(alloc: Global, source: &mut S) -> Result<usize, L
 
 /// The example of `check_lines`. Writes a line for each finding of a report of the file `a.nc`. Errs if the sink fails.
 pub fn print_all<W: Sink>(sink: &mut W, alloc: Global, report: &Report) -> Result<(), WriteFailed> {
-    let filter = FilterOptions {
+    let filter = Filter {
         level: Severity::Note,
         ignored: Sequence::new(alloc),
     };

@@ -4,7 +4,7 @@ use Rattle.nc_types.specs.Bytes.{Bytes, concat_parts}
 use Rattle.nc_findings.specs.declared.{listing.Listing.Listing, finding.Finding.Finding}
 use Rattle.check_lines.specs.Json.{json_text, member_if, object_text}
 use Rattle.check_lines.specs.Lines.{Told, after, line_text, told}
-use Rattle.check_lines.specs.Words.{each_of}
+use Rattle.check_lines.specs.Shown.{each_of}
 use Rattle.check_lines.specs.declared.style.Style.{Style}
 use Rattle.check_lines.specs.declared.style.Style.TheVariants.{Line, Json}
 

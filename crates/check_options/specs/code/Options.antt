@@ -2,7 +2,6 @@
 use Rattle.std.specs.Borrow.{Bor}
 use Rattle.std.specs.Prelude.{ℕ, List, Option, option_map}
 use Rattle.cli_base.specs.Arguments.{texts_of}
-use Rattle.check_lines.specs.code.Filters.{filter_for}
 use Rattle.check_options.specs.CommandLine.{Asked}
 use Rattle.check_options.specs.declared.options.CheckOptions.{CheckOptions}
 
@@ -12,7 +11,7 @@ asked_for o = record {
   files = texts_of o.files;
   reads_paths_from_input = o.reads_paths_from_input;
   tells_formats = o.tells_formats;
-  filter = filter_for o.filter;
+  filter = o.filter;
   form = o.form;
   is_quiet = o.is_quiet;
   has_summary = o.has_summary;

@@ -5,13 +5,13 @@ use Rattle.devices.specs.Readers.{ReaderView}
 use Rattle.check_options.specs.CommandLine.{Asked}
 use Rattle.nccheck.specs.PathLists.{Item, items_after, ListEnd, Path}
 use Rattle.nccheck.specs.Runs.{has_ended, Openings, ReadsList, RunsOver, State}
-use Rattle.nccheck.specs.Tallies.{Answer, counted, no_files, status_of}
+use Rattle.nccheck.specs.Tallies.{Answer, counted, no_files}
 use Rattle.nccheck.specs.declared.tally.Tally.{Tally}
 
 -- those of these answers were counted too, or a fault has ended the run
 abbrev pub IsCount : Tally → List Answer → Option Tally → Type 0
 IsCount before answers (Some after) = (after ≡ fold counted before answers) × (has_ended answers ≡ false)
-IsCount before answers None = (has_ended answers ≡ true) × (status_of (fold counted before answers) ≡ 2)
+IsCount before answers None = has_ended answers ≡ true
 
 -- the items were checked in turn, as `RunsOver` says, and counted from `before` to `after`
 pub record Counts {P : Type 0} (o : Openings P) (a : Asked) (items : List Item) (old new : State P) (before : Tally) (after : Option Tally)

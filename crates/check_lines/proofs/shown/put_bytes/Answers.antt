@@ -2,8 +2,7 @@ use Rattle.std.proofs.Common.{ℕ, ◌≡◌, ◌∙◌, Bool, true, List, [], �
 use Rattle.std.specs.List.{list_all}
 use Rattle.nc_types.specs.Bytes.{concat_parts}
 use Rattle.devices.specs.code.SinkWrites.{Wrote}
-use Rattle.check_lines.specs.Shown.{shown_byte, stays}
-use Rattle.check_lines.specs.Words.{each_of}
+use Rattle.check_lines.specs.Shown.{each_of, shown_byte, stays}
 use Rattle.check_lines.specs.code.Styles.{in_style}
 use Rattle.check_lines.specs.declared.shown.Form.{Form}
 use Rattle.check_lines.proofs.Styled.{in_style-each}

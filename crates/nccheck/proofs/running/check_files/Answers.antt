@@ -1,19 +1,18 @@
-use Rattle.std.proofs.Common.{inl, inr, refl}
-use Rattle.nccheck.proofs.InTurn.{is_told}
+use Rattle.nccheck.proofs.Prelude.{refl, state}
+use Rattle.nccheck.proofs.Endings.{writes_after}
 use Rattle.nccheck.proofs.Listing.{runs_counted, runs_silent, runs_stopped}
 use Rattle.nccheck.proofs.running.check_files.Goals as goal
 
-pub returns-in-None-clause-runs : goal.returns-in-None-clause-runs
-returns-in-None-clause-runs g c = runs_stopped c.in-None.ensures.counts
+pub returns-in_err-tally-clause-runs : goal.returns-in_err-tally-clause-runs
+returns-in_err-tally-clause-runs g c = rw c.from_residual.ensures (runs_stopped c.in_err-tally.ensures.counts)
 
 pub returns-then-not-options-clause-runs : goal.returns-then-not-options-clause-runs
-returns-then-not-options-clause-runs g c = runs_silent c.in-Some.ensures.counts c.if-not-options.true c.status.ensures
+returns-then-not-options-clause-runs g c = rw c.status.ensures (runs_silent c.in_ok-tally.ensures.counts c.if-not-options.true)
 
-pub returns-in-Ok-clause-runs : goal.returns-in-Ok-clause-runs
-returns-in-Ok-clause-runs g c =
-    runs_counted c.in-Some.ensures.counts c.if-not-options.false refl (inl (c.in-Ok.ensures, refl, c.status-in-Ok.ensures))
-
-pub returns-in-Err-clause-runs : goal.returns-in-Err-clause-runs
-returns-in-Err-clause-runs g c =
-    runs_counted c.in-Some.ensures.counts c.if-not-options.false refl
-    (inr (c.in-Err.ensures, is_told _ _ _ c.put_flush_fault.result c.put_flush_fault.ensures, refl))
+pub returns-clause-runs : goal.returns-clause-runs
+returns-clause-runs g c =
+    let opener = c.check_all.new.opener in
+    let mid = state g.O.Sink.view g.E.Sink.view opener c.check_all.new.out c.check_all.new.err in
+    let new = state g.O.Sink.view g.E.Sink.view opener c.put_summary-written.new.sink c.status_after.new.err in
+    runs_counted c.in_ok-tally.ensures.counts c.if-not-options.false refl
+    (writes_after _ mid new c.put_summary-written.result _ _ c.put_summary-written.ensures (rw c.status-2.ensures at c.status_after.ensures))

@@ -1,12 +1,13 @@
 -- The word of each kind names it, by computing.
 use Rattle.std.proofs.Common.{refl}
 use Rattle.nc_findings.specs.declared.kind.Kind.TheVariants.{NotNetcdf, Hdf5, Hdf5Truncated, Gzip, EmptyFile, UnknownVersion, HeaderTruncated, BadTag, BadCount, BadName, NameCharacters, FloatingType, BadType, BadShape, TwoRecordDims, TooLarge, BadOffset, LargeCount, Streaming, UnusedRecords, EmptyList, LongName, DuplicateName, NotNfc, Padding, EmptyAttribute, TrailingNul, FillValue, HighRank, Vsize, OddVsize, LargeVariable, BeginInHeader, Overlap, Unpadded, Order, AfterRecords, RecordPlace, Gap, Missing, EndPadding, Trailing}
-unfoldable use Rattle.check_lines.specs.Words.{kind_word}
+unfoldable use Rattle.nc_findings.specs.Kinds.{kind_word}
 use Rattle.check_options.specs.KindWords.{EachWordNamesItsKind}
-use Rattle.check_options.proofs.kind_words.is_kind_word.Goals as goal
+unfoldable use Rattle.check_options.specs.KindWords.{kind_named}
+use Rattle.check_options.proofs.kind_words.kind_named.Goals as goal
 
 named : EachWordNamesItsKind
-unfolding kind_word
+unfolding kind_word kind_named
 named NotNetcdf = refl
 named Hdf5 = refl
 named Hdf5Truncated = refl
