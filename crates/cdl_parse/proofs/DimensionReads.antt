@@ -1,5 +1,7 @@
 -- What the tokens of a statement of dimensions make of the dimensions.
 use Rattle.cdl_parse.proofs.Prelude.{◌≡◌, ℕ, Bool, true, false, List, [], ◌∷◌, ◌++◌, refl, sym, ap, ◌∙◌, subst, Result, Ok, if◌then◌else◌, Dim, Version, completes, Lexeme, Dimension, DimensionName, CdlKind, BadName, DuplicateName, first_goes, second_goes, third_goes, on, add_dim, dim_len_of, unless, when, Leaves, ReadError, is_dimension_name, ◌>>=◌, ⊤, is_name as is_format_name}
+pub use Rattle.cdl_parse.proofs.AttributeReads.{fails_then, refused}
+pub use Rattle.cdl_parse.proofs.TakenNames.{fails_after, named}
 
 -- ---- a dimension
 
@@ -32,3 +34,5 @@ pub four_on : (n e l s : Lexeme) (ws es ls ss rest : List Lexeme) (a b c d : Boo
     ws ≡ n ∷ e ∷ l ∷ s ∷ (if d then [] else rest)
 four_on n e l s ws es ls ss rest a b c d shaped first second third fourth =
     two_on n e ws es ls a b shaped first second ∙ ap (λ xs. n ∷ e ∷ xs) (on l ls ss c third (length_goes n e l ws es ls ss a b c shaped first second third) ∙ ap (λ xs. l ∷ xs) fourth)
+
+pub ruleset dimension_reads = (fails_then, refused, name_first, with_len, leaves_as, named, fails_after)

@@ -1,6 +1,6 @@
 //! The statement that declares variables.
 
-ghost use Rattle.std.specs.Prelude.{◌≡◌, ◌&&◌, drop, false, true, IfOk};
+ghost use Rattle.std.specs.Prelude.{◌≡◌, drop, false, true, IfOk};
 ghost use Rattle.cdl_statements.specs.code.Cutters.{is_done, words};
 ghost use Rattle.cdl_statements.specs.code.DueTokens.{completes};
 ghost use Rattle.cdl_tokens.specs.Escapes.{word_value};

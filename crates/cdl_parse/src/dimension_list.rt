@@ -88,7 +88,7 @@ fn next_dimension(start: Cutter<'_>) -> NextDimension<'_>
 /// Adds a dimension at the end of `dims`. `name` and `length` are the tokens of its name and its length; `version` limits the length. Errs
 /// with a fault of the name (`BadName`, `DuplicateName`), otherwise with a fault of the length (`ZeroDimension`, `NumberRange`,
 /// `TwoRecordDims`), or if an allocation failed. After any error `dims` is what it was, but no clause says so.
-#[tactic(auto, using(crate::proofs::AttributeReads::fails_then, crate::proofs::AttributeReads::refused, crate::proofs::DimensionReads::name_first, crate::proofs::DimensionReads::with_len, crate::proofs::DimensionReads::leaves_as, crate::proofs::TakenNames::named, crate::proofs::TakenNames::fails_after))]
+#[tactic(auto, using(crate::proofs::DimensionReads::dimension_reads))]
 fn add_dimension(
     alloc: Global,
     dims: &mut Dimensions,

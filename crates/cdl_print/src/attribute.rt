@@ -1,6 +1,5 @@
 //! Attributes as CDL writes them.
 
-ghost use Rattle.std.specs.Prelude.{◌≡◌};
 ghost use Rattle.nc_types.specs.Escapes.{escaped_name};
 ghost use Rattle.nc_base.specs.HeadText.{att_line, att_lines, att_text, chars_text};
 ghost use Rattle.devices.specs.code.SinkWrites.{Wrote};

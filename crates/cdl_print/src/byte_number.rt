@@ -53,7 +53,7 @@ pub fn byte_number_len(n: i128) -> usize
     (LENGTHS[index_of(n)] - b'0') as usize
 }
 
-/// Writes `n` in decimal, with a minus if it is negative, at the offset `at` of `text`, as [`put_decimal`](crate::put_decimal) does.
+/// Writes `n` in decimal, with a minus if it is negative, at the offset `at` of `text`, as [`put_decimal`](crate::decimal::put_decimal) does.
 /// No branch depends on the number. Needs a number from -128 to 255, and room for four bytes. The bytes after the number may change.
 #[inline(always)]
 pub fn put_byte_number(text: &mut [u8], at: usize, n: i128)

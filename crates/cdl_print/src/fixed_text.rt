@@ -1,9 +1,9 @@
-//! The fixed words of a head.
+//! The fixed texts of a head.
 
 ghost use Rattle.std.specs.Prelude.{◌≡◌};
 ghost use Rattle.cdl_print.specs.code.Words.{word_text};
 
-/// A fixed word of a head, with its spaces and line feeds.
+/// A fixed text of a head, with its spaces and line feeds.
 #[derive(Clone, Copy)]
 pub enum FixedText {
     /// The heading of the dimensions.
@@ -19,7 +19,7 @@ pub enum FixedText {
 }
 
 impl FixedText {
-    /// Returns the bytes that are printed for this word, with its spaces and line feeds.
+    /// Returns the bytes of this text, with its spaces and line feeds.
     #[tactic(auto, unfolding(nc_base::specs::HeadText::dimensions_word, nc_base::specs::HeadText::unlimited_word, nc_base::specs::HeadText::currently_word, nc_base::specs::HeadText::variables_word, nc_base::specs::HeadText::global_word))]
     pub fn bytes(self) -> &'static [u8]
         ensures { result.now ≡ word_text self }

@@ -1,6 +1,6 @@
 //! The head of a dump.
 
-ghost use Rattle.std.specs.Prelude.{◌≡◌, [], ◌∷◌, codes, decimal};
+ghost use Rattle.std.specs.Prelude.{[], ◌∷◌, codes, decimal};
 ghost use Rattle.nc_types.specs.Bytes.{concat_parts};
 ghost use Rattle.nc_base.specs.HeadText.{dim_len_text, dim_line, dim_lines, dims_text, gatts_text, head_text};
 ghost use Rattle.devices.specs.code.SinkWrites.{Wrote};

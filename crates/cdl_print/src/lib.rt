@@ -14,7 +14,8 @@
 //! printer.finish(sink)?;
 //! ```
 //!
-//! Here `values` are values of that variable, big-endian, such as a chunk of a `Walk` of `nc_walk`. There may be many such calls.
+//! Here `values` are values of that variable, big-endian, such as a chunk of a `Walk` of `nc_walk`. There may be many such calls. `text` is
+//! a [`TextBuffer`], and one serves all variables.
 #![tactic(auto)]
 
 mod attribute;

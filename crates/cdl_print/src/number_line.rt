@@ -2,7 +2,7 @@
 
 ghost use Rattle.std.specs.Prelude.{ℕ, ◌≡◌, ◌+◌, ◌*◌, ◌<◌, ◌≤◌, ◌^◌, codes, length, unsigned_abs};
 ghost use Rattle.std.specs.Fmt.{decimal, signed_decimal};
-ghost use Rattle.nc_base.specs.Numbers.{number_of, numbers};
+ghost use Rattle.nc_base.specs.Numbers.{number_of};
 ghost use Rattle.nc_types.specs.Types.{size_of};
 ghost use Rattle.cdl_print.specs.code.NumberTexts.{IsByteNumber};
 ghost use Rattle.cdl_print.specs.code.Fills.{IsFillOf};

@@ -14,7 +14,8 @@ use crate::progress::{Progress, row_index_after};
 use devices::{Sink, WriteFailed, put};
 use nc_base::number_of;
 
-/// How many numbers are written at once. Each takes at most 47 bytes: 40 of its own, and 7 that stand before it.
+/// How many numbers are written at once. Each has room for 47 bytes: 40, in which any `i128` fits (a value takes at most 21), and 7 that stand
+/// before it.
 const NUMBERS_AT_ONCE: usize = 80;
 
 /// A buffer for the text of numbers, or of characters of a row, that are written at once.

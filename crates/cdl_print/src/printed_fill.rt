@@ -2,7 +2,7 @@
 
 ghost use Rattle.std.specs.Prelude.{◌≡◌, ◌↔◌, IfSome, IsSome, FitsSigned};
 ghost use Rattle.std.specs.Int.{w64};
-ghost use Rattle.cdl_print.specs.code.Fills.{IsFillBelow100, IsFillOf, IsNarrowFill, is_fill, prints_as_fill, shows_below_100};
+ghost use Rattle.cdl_print.specs.code.Fills.{IsFillBelow100, IsFillOf, IsNarrowFill, prints_as_fill, shows_below_100};
 ghost use Rattle.cdl_print.specs.code.Leads.{look_at};
 
 use crate::layout::TextLayout;
@@ -45,20 +45,8 @@ impl PrintedFill {
         ensures { result ≡ prints_as_fill (look_at layout.now) number }
     {
         match narrow(number) {
-            Some(n) => self.is_equal_to(n),
+            Some(n) => self.narrow.is_some_and(|fill| fill == n),
             None => layout.prints_as_fill(number),
-        }
-    }
-
-    /// Returns true if `number` equals the fill value in `narrow`, and so prints as `_`. Returns false if `narrow` is `None`, since then no
-    /// number that an `i64` can hold prints as `_`.
-    #[inline(always)]
-    fn is_equal_to(self, number: i64) -> bool
-        ensures { result ≡ is_fill self.narrow number }
-    {
-        match self.narrow {
-            Some(fill) => number == fill,
-            None => false,
         }
     }
 }

@@ -23,6 +23,10 @@ good_end version l good = ap (λ b. option_or b None) good
 pub bad_first : (version : Version) (l : Lexeme) (ls ws : List Lexeme) (k : CdlKind) → ws ≡ l ∷ ls → token_fault version l.kind l.bytes ≡ Some k → first_bad version ws ≡ Some k
 bad_first version l ls ws k is bad = rw (is) (rw (bad) refl)
 
+pub ruleset first_words = (ending, going, first_word)
+
+pub ruleset shape_checks = (bad_first, ending, going, good_end, good_on)
+
 -- a number is bad where it has no parts
 pub bad_number : (version : Version) (bytes : List ℕ) (r : Option Numeral) → r ≡ option_map held (parts version bytes) → is_none r ≡ is_none (numeral version bytes)
 unfolding numeral

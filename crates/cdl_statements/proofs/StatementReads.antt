@@ -1,5 +1,5 @@
 -- A statement, by what the check of it finds.
-use Rattle.cdl_statements.proofs.Prelude.{◌≡◌, true, false, List, ap, ◌∙◌, Option, None, Some, is_some, Result, Ok, Err, if◌then◌else◌, arith, Version, statement_said, version_of, words, Cutter, completes, Lexeme, Statement, first_bad, shape, CdlKind, Syntax, Section}
+use Rattle.cdl_statements.proofs.Prelude.{◌≡◌, true, false, List, ap, ◌∙◌, None, Some, is_some, Result, Ok, Err, if◌then◌else◌, arith, Version, statement_said, version_of, words, Cutter, completes, Lexeme, Statement, first_bad, shape, CdlKind, Syntax, Section}
 use Rattle.cdl_statements.specs.declared.due.Due.TheVariants as dues
 use Rattle.cdl_statements.proofs.Options.{none_of}
 use Rattle.cdl_statements.proofs.Readings.{checked, shaped}

@@ -112,10 +112,8 @@ impl<'a> Lexeme<'a> {
     pub fn opens_section_after(self, before: Section) -> bool
         ensures { result ≡ opens_section_after before (lexeme_of self.entry) }
     {
-        match self.section() {
-            Some(section) => before.number() < section.number(),
-            None => false,
-        }
+        self.section()
+            .is_some_and(|section| before.number() < section.number())
     }
 }
 

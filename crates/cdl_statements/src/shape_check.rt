@@ -24,7 +24,7 @@ use nc_base::Version;
 /// # Errors
 ///
 /// The fault of the statement's first bad token (`BadToken`) or bad number (`BadNumber`); or `Syntax` if its tokens are in another order.
-#[tactic(auto, using(crate::proofs::ShapeChecks::bad_first, crate::proofs::ShapeChecks::ending, crate::proofs::ShapeChecks::going, crate::proofs::ShapeChecks::good_end, crate::proofs::ShapeChecks::good_on), unfolding(crate::specs::code::DueTokens::completes))]
+#[tactic(auto, using(crate::proofs::ShapeChecks::shape_checks), unfolding(crate::specs::code::DueTokens::completes))]
 pub fn pass_statement(start: Cutter<'_>, first: Due) -> Result<Cutter<'_>, CdlKind>
     requires { is_done start ≡ false }
     ensures good { OnOk result (first_bad (version_of start.entry) (words start.entry) ≡ None) }

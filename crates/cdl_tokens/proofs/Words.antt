@@ -85,3 +85,5 @@ value_byte text at next h is off = value_at text at h ∙ rw (← is) (rw (off) 
 -- what was read, and a byte more
 pub so_far : (items new before after all : List ℕ) (b : ℕ) → new ≡ items ++ b ∷ [] → before ≡ b ∷ after → items ++ before ≡ all → new ++ after ≡ all
 so_far items new before after all b e is h = rw (e) (append_assoc items (b ∷ []) after ∙ ap (λ xs. items ++ xs) (sym is) ∙ h)
+
+pub ruleset word_values = (escape_inside, value_past, value_escape, value_byte, so_far)

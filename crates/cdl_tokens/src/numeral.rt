@@ -1,9 +1,7 @@
 //! What number tokens of any length say.
 
 ghost use Rattle.std.specs.Char.{to_ascii_lowercase};
-ghost use Rattle.std.specs.List.{prefix_len};
-ghost use Rattle.std.specs.Prelude.{◌≡◌, ◌≤◌, ◌+◌, drop, length, map, option_map, slice_index};
-ghost use Rattle.cdl_tokens.specs.Bytes.{is_digit, number_in};
+ghost use Rattle.std.specs.Prelude.{◌≡◌, ◌≤◌, length, map, option_map, slice_index};
 ghost use Rattle.cdl_tokens.specs.code.Magnitudes.{ReadsDigits, held, in_decimal};
 ghost use Rattle.cdl_tokens.specs.Numerals.{has_suffix, in_base, parts, type_of_suffix, with_sign};
 

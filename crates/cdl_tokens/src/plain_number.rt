@@ -1,6 +1,6 @@
 //! Plain numbers: an optional minus and at most 19 decimal digits, with no suffix or one of the suffixes that every version has.
 
-ghost use Rattle.std.specs.Prelude.{◌≡◌, IfSome};
+ghost use Rattle.std.specs.Prelude.{IfSome};
 ghost use Rattle.cdl_tokens.specs.code.PlainTokens.{Begins, BeginsDecimal, BeginsUnsigned, IsLetterOf};
 
 use crate::bytes::{byte_at, ends_value};
@@ -19,7 +19,7 @@ pub struct PlainNumber {
 
 /// The digits and the suffix of a plain number, at the start of bytes.
 #[derive(Clone, Copy)]
-pub struct PlainMagnitude {
+struct PlainMagnitude {
     /// The number of its bytes.
     len: usize,
     /// The value of its digits.

@@ -1,6 +1,6 @@
 //! Plain strings: strings without an escape or a line feed.
 
-ghost use Rattle.std.specs.Prelude.{◌≡◌, IfSome};
+ghost use Rattle.std.specs.Prelude.{IfSome};
 ghost use Rattle.cdl_tokens.specs.code.PlainTokens.{BeginsString};
 
 use crate::bytes::byte_at;

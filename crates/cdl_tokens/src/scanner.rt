@@ -339,11 +339,7 @@ impl<'a> Scanner<'a> {
         ensures inside { result ≡ true → offset_of self.now < length (text_of self.now) }
         ensures comma { result ≡ true → slice_index (text_of self.now) (offset_of self.now) ≡ 0x2c }
     {
-        if self.at < self.text.len() {
-            self.text[self.at] == b','
-        } else {
-            false
-        }
+        self.at < self.text.len() && self.text[self.at] == b','
     }
 
     /// Passes the token of this kind and of `len` bytes that begins at the next byte, and returns it. Needs the kind and the length that

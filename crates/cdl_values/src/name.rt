@@ -37,7 +37,7 @@ pub fn read_name(alloc: Global, word: &[u8]) -> Result<Vec<u8>, ReadError>
 /// # Errors
 ///
 /// An allocation failed.
-#[tactic(auto, using(cdl_tokens::proofs::Words::value_escape, cdl_tokens::proofs::Words::so_far, cdl_tokens::proofs::Words::escape_inside, std::proofs::lemmas::Grind::common_steps, cdl_tokens::proofs::Words::value_byte, cdl_tokens::proofs::Words::value_past))]
+#[tactic(auto, using(cdl_tokens::proofs::Words::word_values, std::proofs::lemmas::Grind::common_steps))]
 pub fn name_of_word(alloc: Global, word: &[u8]) -> Result<Vec<u8>, AllocError>
     ensures { IfOk result (λ name. name.items ≡ word_value word.now) }
 {

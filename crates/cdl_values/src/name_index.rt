@@ -46,12 +46,12 @@ impl NameIndex {
     }
 
     /// If no item of `list` has the name, adds the name to the index with the position just after the end of `list`, and returns true: the
-    /// caller has to append an item of this name to the list. Otherwise changes nothing and returns false. Needs the `list` that this is
-    /// the index of.
+    /// caller has to append an item of this name to the list. Otherwise returns false, and stays the index of `list`. Needs the `list` that
+    /// this is the index of.
     ///
     /// # Errors
     ///
-    /// An allocation failed. Then nothing is changed.
+    /// An allocation failed. Then this is still the index of `list`.
     pub fn add<T: Named>(
         &mut self,
         alloc: Global,

@@ -73,8 +73,7 @@ fn pack_number_inline(array: &mut ListedArray, ty: NcType, number: i128) -> Resu
 {
     match ty {
         NcType::Byte => array.add(&(number as i8).to_be_bytes()),
-        NcType::Char => array.add(&(number as u8).to_be_bytes()),
-        NcType::Ubyte => array.add(&(number as u8).to_be_bytes()),
+        NcType::Char | NcType::Ubyte => array.add(&(number as u8).to_be_bytes()),
         NcType::Short => array.add(&(number as i16).to_be_bytes()),
         NcType::Ushort => array.add(&(number as u16).to_be_bytes()),
         NcType::Int => array.add(&(number as i32).to_be_bytes()),

@@ -35,7 +35,7 @@ pub struct Packed<'a> {
 /// The fault of the first value that has one (`WrongKind`, `TooManyValues`, `NumberRange`, `StringTooLong`), or `OutOfMemory` if an
 /// allocation failed.
 #[inline(never)]
-#[tactic(auto, using(cdl_statements::proofs::ShapeChecks::ending, crate::proofs::PackedTokens::none_packed, cdl_statements::proofs::ShapeChecks::going, cdl_statements::proofs::ShapeChecks::first_word, crate::proofs::AllowedNames::refused))]
+#[tactic(auto, using(cdl_statements::proofs::ShapeChecks::first_words, crate::proofs::PackedTokens::none_packed, crate::proofs::AllowedNames::refused))]
 pub fn pack(
     alloc: Global,
     start: Cutter<'_>,
@@ -69,7 +69,7 @@ pub fn pack(
 /// `Unnamed` if a token, a value or the order has a fault. The caller then reads the statement again for the fault, so no clause says that
 /// it is only then. `OutOfMemory` if an allocation failed.
 #[inline(never)]
-#[tactic(auto, using(cdl_statements::proofs::ShapeChecks::ending, cdl_statements::proofs::ShapeChecks::good_end, crate::proofs::PackedTokens::none_packed, cdl_statements::proofs::ShapeChecks::going, cdl_statements::proofs::ShapeChecks::good_on), unfolding(cdl_statements::specs::code::DueTokens::completes))]
+#[tactic(auto, using(cdl_statements::proofs::ShapeChecks::shape_checks, crate::proofs::PackedTokens::none_packed), unfolding(cdl_statements::specs::code::DueTokens::completes))]
 pub fn pack_and_check<'a>(
     alloc: Global,
     start: Cutter<'a>,

@@ -22,7 +22,7 @@ const BYTES_AT_ONCE: usize = 256;
 
 /// Appends to `array` the bytes that a string stands for, so that strings are joined: unlike [`put_row`], it fills up no row. `bytes` is
 /// the string with its quotes, and `capacity` is how many more bytes the variable takes. Errs with `StringTooLong` if the string stands for
-/// more bytes than that (they stay appended), and with `OutOfMemory` if an allocation failed (some of them may be appended then).
+/// more bytes than that, and with `OutOfMemory` if an allocation failed. No clause says what `array` has after an error.
 #[tactic(auto, using(crate::proofs::PackedTokens::chars_len, std::proofs::lemmas::Grind::common_steps))]
 pub fn put_joined_string(
     array: &mut ListedArray,
@@ -40,9 +40,8 @@ pub fn put_joined_string(
 }
 
 /// Appends to `array` a row of `len` bytes: the bytes that a string stands for, filled up with `fill`. `bytes` is the string with its
-/// quotes, and `full` is true if the variable takes no more rows. Errs with `TooManyValues` if `full` (nothing is appended then), with
-/// `StringTooLong` if the string stands for more than `len` bytes (they stay appended), and with `OutOfMemory` if an allocation failed
-/// (some of them may be appended then).
+/// quotes, and `full` is true if the variable takes no more rows. Errs with `TooManyValues` if `full`, with `StringTooLong` if the string
+/// stands for more than `len` bytes, and with `OutOfMemory` if an allocation failed. No clause says what `array` has after an error.
 #[tactic(auto, using(crate::proofs::PackedTokens::chars_len, std::proofs::lemmas::Grind::common_steps))]
 pub fn put_row(
     array: &mut ListedArray,
@@ -68,8 +67,8 @@ pub fn put_row(
 }
 
 /// Appends to `array` a row of `len` bytes: `characters`, filled up with `fill`. It is [`put_row`] for a string in which each byte between
-/// the quotes stands for itself, and a variable that takes one more row. Errs with `StringTooLong` if there are more than `len` characters
-/// (nothing is appended then), and with `OutOfMemory` if an allocation failed (the characters may be appended then).
+/// the quotes stands for itself, and a variable that takes one more row. Errs with `StringTooLong` if there are more than `len` characters,
+/// and with `OutOfMemory` if an allocation failed. No clause says what `array` has after an error.
 #[tactic(auto, using(std::proofs::lemmas::Grind::common_steps))]
 pub fn put_plain_row(
     array: &mut ListedArray,

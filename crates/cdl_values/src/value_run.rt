@@ -1,6 +1,6 @@
 //! Runs of values of a statement. A comma stands before and after each value of a run.
 
-ghost use Rattle.std.specs.Prelude.{◌≡◌, IfOk, false, true};
+ghost use Rattle.std.specs.Prelude.{◌≡◌, IfOk, false};
 ghost use Rattle.cdl_statements.specs.code.Cutters.{is_done};
 ghost use Rattle.cdl_statements.specs.code.ListedTokens.{EndsAtScanner, IsAtComma};
 ghost use Rattle.cdl_values.specs.code.PackedValues.{capacity_minus};
@@ -32,7 +32,7 @@ pub struct UnreadValues<'a> {
 ///
 /// # Errors
 ///
-/// `Unnamed` if the statement has some fault; `OutOfMemory` if an allocation failed. Either way, the values before stay appended.
+/// `Unnamed` if the statement has some fault; `OutOfMemory` if an allocation failed. Either way, no clause says what `array` has then.
 #[inline(always)]
 pub fn take_run<'a>(
     array: &mut ListedArray,
@@ -53,7 +53,7 @@ pub fn take_run<'a>(
 
 /// Appends to `array` the values that come next, each with a comma before and after it, and returns what is unread after them. `_` counts
 /// as a value. Needs a cutter at the first comma. Errs with `Unnamed` if a token between two commas is no value or the value has a fault,
-/// and with `OutOfMemory` if an allocation failed; the values before stay appended.
+/// and with `OutOfMemory` if an allocation failed. No clause says what `array` has after an error.
 #[inline(never)]
 fn take_values<'a>(
     array: &mut ListedArray,
@@ -81,7 +81,8 @@ fn take_values<'a>(
 
 /// Appends to `array` the plain values that come next, and returns what is unread after them: plain numbers and `_`, or plain strings.
 /// Returns `start` if the form is `Joined`, which has no loop for plain strings. Needs a cutter at a comma, with its scanner just after
-/// this comma. Errs with `Unnamed` if a value has a fault, and with `OutOfMemory` if an allocation failed; the values before stay appended.
+/// this comma. Errs with `Unnamed` if a value has a fault, and with `OutOfMemory` if an allocation failed. No clause says what `array` has
+/// after an error.
 fn take_plain_values<'a>(
     array: &mut ListedArray,
     start: UnreadValues<'a>,
@@ -101,7 +102,7 @@ fn take_plain_values<'a>(
 /// Appends to `array` the plain numbers that come next, and the fill value for each `_` among them. Returns what is unread after them.
 /// Stops before the first other value, before one without a comma after it, and when the capacity is used up. Needs a cutter at a comma,
 /// with its scanner just after this comma. Errs with `Unnamed` if a number is out of the type's range, and with `OutOfMemory` if an
-/// allocation failed; the values before stay appended.
+/// allocation failed. No clause says what `array` has after an error.
 #[inline(never)]
 fn take_numbers<'a>(
     array: &mut ListedArray,
@@ -185,7 +186,7 @@ fn put_next_number(
 /// Appends to `array` the plain strings (no escape, no line feed) that come next, each as a row of `len` bytes filled up with `fill`, and
 /// returns what is unread after them. Stops before the first value that isn't a plain string with a comma after it, and when the capacity
 /// is used up. Needs a cutter at a comma, with its scanner just after this comma. Errs with `Unnamed` if a string has more than `len`
-/// bytes, and with `OutOfMemory` if an allocation failed; the rows before stay appended.
+/// bytes, and with `OutOfMemory` if an allocation failed. No clause says what `array` has after an error.
 #[inline(never)]
 fn take_rows<'a>(
     array: &mut ListedArray,
@@ -205,7 +206,7 @@ fn take_rows<'a>(
 /// Appends to `array` the plain strings that come next in `list`, at most `room` of them, each as a row of `len` bytes filled up with
 /// `fill`, and returns how many there were. Stops before the first value that isn't a plain string with a comma after it. Needs a list that
 /// began at a comma inside of a statement. Errs with `StringTooLong` if a string has more than `len` bytes, and with `OutOfMemory` if an
-/// allocation failed; the rows before stay appended.
+/// allocation failed. No clause says what `array` has after an error.
 // A call, so that the loop keeps nothing of its caller's in registers.
 #[inline(never)]
 fn put_rows(

@@ -10,11 +10,7 @@ use Rattle.cli_base.specs.Arguments.{if_faultless}
 use Rattle.cli_base.specs.declared.fault.OptFault.{OptFault}
 use Rattle.cli_base.specs.declared.fault.OptFault.TheVariants.{OutOfMemory, Usage}
 
--- words without a fault ask for what their entries do
-pub unless_none : {A : Type 0} (kinds : Kinds) (asked : Option A) → kinds ≡ [] → asked ≡ if_faultless kinds asked
-unless_none kinds asked none = rw none refl
-
--- and words with one for nothing
+-- words with a fault ask for nothing
 pub unless_some : {A : Type 0} (kinds : Kinds) (kind : ErrorKind) (asked : Option A) → IsAmong kind kinds → if_faultless kinds asked ≡ None
 unless_some [] kind asked among = absurd among
 unless_some (k ∷ ks) kind asked among = refl

@@ -46,12 +46,11 @@ impl From<AllocError> for OptFault {
     }
 }
 
-/// A failed allocation becomes `OutOfMemory`. Any other error means that a word of the command line isn't UTF-8, and becomes `Usage`.
 impl From<io::Error> for OptFault {
     ghost from_gives = { λ error e. (error_kind error ≡ io_kind.OutOfMemory → e ≡ opt.OutOfMemory) × (error_kind error ≢ io_kind.OutOfMemory → e ≡ opt.Usage) };
 
-    /// Turns an error of reading the words or of making a buffer into [`OptFault::OutOfMemory`] if its kind says so, otherwise into
-    /// [`OptFault::Usage`], for the `?` after `env::args` and `BufWriter::with_capacity`.
+    /// Turns an error of reading the words or of making a buffer into [`OptFault::OutOfMemory`] if an allocation failed, otherwise into
+    /// [`OptFault::Usage`] (a word isn't UTF-8), for the `?` after `env::args` and `BufWriter::with_capacity`.
     fn from(error: io::Error) -> OptFault {
         match error.kind() {
             io::ErrorKind::OutOfMemory => OptFault::OutOfMemory,
@@ -60,12 +59,11 @@ impl From<io::Error> for OptFault {
     }
 }
 
-/// A failed allocation becomes `OutOfMemory`. Any other error means that the command doesn't take the words, and becomes `Usage`.
 impl From<clap::Error> for OptFault {
     ghost from_gives = { λ error e. (kind_of error ≡ kind.OutOfMemory → e ≡ opt.OutOfMemory) × (kind_of error ≢ kind.OutOfMemory → e ≡ opt.Usage) };
 
-    /// Turns an error of matching the words into [`OptFault::OutOfMemory`] if its kind says so, otherwise into [`OptFault::Usage`], for the
-    /// `?` after `try_get_matches_from`.
+    /// Turns an error of matching the words into [`OptFault::OutOfMemory`] if an allocation failed, otherwise into [`OptFault::Usage`] (the
+    /// command doesn't take the words), for the `?` after `try_get_matches_from`.
     fn from(error: clap::Error) -> OptFault {
         match error.kind() {
             ErrorKind::OutOfMemory => OptFault::OutOfMemory,

@@ -12,7 +12,7 @@
 //! Ok(header_only || width.is_some())
 //! ```
 //!
-//! This crate is internal: `ncdump`, `ncgen`, `nccheck` and their programs alone call it.
+//! This crate is internal: `ncdump`, `ncgen`, `check_options`, `nccheck` and the programs alone call it.
 #![tactic(auto)]
 
 mod arguments;

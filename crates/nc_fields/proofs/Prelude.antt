@@ -20,10 +20,10 @@ pub use Rattle.nc_fields.specs.code.PassedValues.{PassesValues, in_place}
 pub use Rattle.nc_fields.specs.declared.{fields.PendingField.PendingField, number.NumberWidth.NumberWidth}
 pub use Rattle.nc_findings.specs.declared.{listing.Listing.Listing, entry.Content.Content, entry.Entry.Entry, list_fault.ListFault.ListFault, place.Owner.Owner, place.Place.Place}
 pub use Rattle.nc_findings.specs.declared.entry.Content.TheVariants.{Cut, Number}
-pub use Rattle.nc_window.proofs.Bytes.{Progress, Stopped, chunk-next, kept-then, on-by, read-content, stop-bytes}
+pub use Rattle.nc_window.proofs.Bytes.{Progress, Stopped, chunk-next, on-by, read-content, stop-bytes}
 pub use Rattle.nc_window.proofs.PartRuns.{after-chain, after-decoded, has_record-next, left_after-err, left_after-ok, run-chain, run-decoded, run-done, run-under, shorter}
 pub use Rattle.nc_window.proofs.Totals.{total_of, total_of-append, within}
-pub use Rattle.nc_window.specs.code.Window.{Caused, FailsOnly, IsAdvanced, Kept, Read, Reads, Ready, left, next_of, source_of}
+pub use Rattle.nc_window.specs.code.Window.{FailsOnly, IsAdvanced, Kept, Read, Reads, Ready, left, next_of, source_of}
 pub use Rattle.nc_window.specs.declared.{head_fault.HeadFault.HeadFault, window.Window.Window}
 pub use Rattle.nc_window.specs.declared.head_fault.HeadFault.TheVariants.{Format, OutOfMemory, ReadFailed}
 pub use Rattle.std.proofs.Common.{Bool, Err, IfOk, List, None, Ok, Option, Result, Some, [], ap, append_assoc, arith, codes, cond, drop, false, if◌then◌else◌, inl, inr, leb, length, length-append, length-take, map, min, nat_lt, refl, rules, slice_index, subst, suc, sym, take, take-take, take_all, true, ℕ, ◌++◌, ◌*◌, ◌+◌, ◌-◌, ◌<◌, ◌==◌, ◌∙◌, ◌∷◌, ◌≡◌, ◌≤◌}

@@ -1,6 +1,6 @@
 //! Dimensions.
 
-ghost use Rattle.std.specs.Prelude.{◌≡◌, ◌∷◌, []};
+ghost use Rattle.std.specs.Prelude.{◌∷◌, []};
 ghost use Rattle.nc_base.specs.Grammar.{dim_after, dim_list, dim_part, each};
 ghost use Rattle.nc_base.specs.Parts.{Dims};
 ghost use Rattle.nc_fields.specs.Lenient.{lenient};

@@ -192,8 +192,7 @@ impl FieldReader {
 fn letters_there<S: Source>(window: &Window<'_, S>) -> u64
     ensures { result ≡ min 3 (length (left window.now)) }
 {
-    let left = window.left_len();
-    if left < 3 { left } else { 3 }
+    window.left_len().min(3)
 }
 
 /// Returns the letters if they are `CDF`, and otherwise errs with `NotNetcdf`.

@@ -2,8 +2,8 @@
 //!
 //! [`list_fields`] reads a header from any source, through a caller's buffer, and lists its fields: each with its place, its offset, its
 //! size and what matters of its content. If the header is wrong, the list ends with the first wrong field and its fault. Files with floats
-//! and doubles are taken, since no value is read. Of a file that doesn't begin with `CDF` it has the first 52 bytes. It is what a check of a
-//! file looks at; the rules on begins, sizes and the length of a file are those of the crate `nc_layout`.
+//! and doubles are taken, since no value is read. If a file doesn't begin with `CDF`, the listing has its first 52 bytes. A check of a file
+//! looks at the listing; the rules on begins, sizes and the length of a file are in the crate `nc_layout`.
 //!
 //! ```
 //! let mut buf = [0; 4096];

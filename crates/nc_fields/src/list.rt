@@ -1,6 +1,5 @@
 //! What stands before the elements of a list.
 
-ghost use Rattle.std.specs.Prelude.{◌≡◌};
 ghost use Rattle.nc_base.specs.Grammar.{list_head};
 ghost use Rattle.nc_fields.specs.code.Lists.{list_steps};
 

@@ -4,7 +4,7 @@ ghost use Rattle.std.specs.Prelude.{◌≡◌, [], ◌∷◌, ◌==◌, ◌&&◌
 ghost use Rattle.std.specs.Int.{byte_len, w32};
 ghost use Rattle.nc_base.specs.Grammar.{checked, count_part, dimid_part, number, limited_part, numrecs_part, offset_part, type_part};
 ghost use Rattle.nc_base.specs.Parts.{Begin, Item, Length, Records, Shape, TypeCode};
-ghost use Rattle.nc_types.specs.Versions.{count_limit, count_width, offset_width};
+ghost use Rattle.nc_types.specs.Versions.{count_width, offset_width};
 ghost use Rattle.nc_base.specs.declared.fault.FormatFault.TheVariants.{BadCount, BadTag, TwoRecordDims};
 ghost use Rattle.nc_window.specs.code.Window.{Read};
 ghost use Rattle.nc_fields.specs.Lenient.{any_length_limit, lenient, sized_type_in};

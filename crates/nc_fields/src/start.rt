@@ -39,6 +39,7 @@ pub(crate) fn start_of<S: Source>(
     match window.read_up_to(&mut start, AFTER_LETTERS) {
         Ok(()) => Ok(start),
         Err(HeadFault::ReadFailed) => Err(ListFault::ReadFailed),
+        // No fault of the format comes from there: too few bytes are none.
         Err(HeadFault::OutOfMemory | HeadFault::Format(_)) => Err(ListFault::OutOfMemory),
     }
 }

@@ -1,6 +1,6 @@
 //! Variables.
 
-ghost use Rattle.std.specs.Prelude.{◌≡◌, ◌∷◌, [], IfOk};
+ghost use Rattle.std.specs.Prelude.{◌∷◌, [], IfOk};
 ghost use Rattle.nc_base.specs.Grammar.{checked, dimid_after, each, is_within_limits, shape_part, type_part, var_after, var_list, var_part};
 ghost use Rattle.nc_base.specs.Parts.{Shape, TypeCode, Vars};
 ghost use Rattle.nc_base.specs.declared.fault.FormatFault.TheVariants.{TooLarge};

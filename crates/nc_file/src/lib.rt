@@ -3,7 +3,7 @@
 //! [`read_header`] reads the header of a file from any source, through a caller's buffer, or errs with a [`HeadFault`]. A header
 //! is written in two steps: [`with_begins`] gives each variable its begin, or errs with [`OffsetTooLarge`], and [`write_header`]
 //! writes the header to any sink. [`header_len`] returns the number of bytes that it writes. Devices of the crate `devices` are
-//! re-exported, for the crates above.
+//! passed on, so that a program can name them by this crate. The crates here take them from `devices`.
 //!
 //! ```
 //! let mut buf = [0; 4096];

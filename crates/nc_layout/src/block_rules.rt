@@ -4,7 +4,7 @@ ghost use Rattle.std.specs.Prelude.{◌≡◌, ◌++◌, OnOk, IsPermutation};
 ghost use Rattle.std.specs.Ordering.{nat_cmp};
 ghost use Rattle.std.specs.List.Sorted.{IsNonDecreasingBy, IsStableByKey};
 ghost use Rattle.nc_layout.specs.Blocks.{blocks};
-ghost use Rattle.nc_layout.specs.code.Sweep.{value_end, padding_end, further, reached_with, end_of, overlap_after, unpadded_after, gap_after, findings_at, swept, nothing_reached, AppendedBlockFindings};
+ghost use Rattle.nc_layout.specs.code.Sweep.{value_end, padding_end, reached_with, end_of, overlap_after, unpadded_after, gap_after, findings_at, swept, nothing_reached, AppendedBlockFindings};
 
 use crate::blocks::Extent;
 use crate::finding::{finding_if, push_some};

@@ -1,6 +1,6 @@
 //! The layout of a file whose header has been read.
 
-ghost use Rattle.std.specs.Prelude.{◌≡◌, ◌≤◌, All, IfOk, SomeIff, map};
+ghost use Rattle.std.specs.Prelude.{◌≤◌, All, IfOk, SomeIff, map};
 ghost use Rattle.nc_base.specs.Sizes.{slab_size, slab_limit};
 ghost use Rattle.nc_layout.specs.Findings.{IsSoundLayout};
 ghost use Rattle.nc_layout.specs.HeaderLayout.{slot_of, layout_of};

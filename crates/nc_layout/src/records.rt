@@ -1,6 +1,6 @@
 //! The records of a file: where they begin, how large they are, and how many there are.
 
-ghost use Rattle.std.specs.Prelude.{◌≡◌, ◌<◌, ◌^◌, ◌+◌, ◌/◌, Option, min, sum_by};
+ghost use Rattle.std.specs.Prelude.{◌≡◌, ◌<◌, ◌^◌, ◌+◌, ◌/◌, min, sum_by};
 ghost use Rattle.nc_base.specs.Sizes.{record_limit};
 ghost use Rattle.nc_layout.specs.Slots.{padded_slab_len, record_slots, is_sole_narrow, records_begin};
 ghost use Rattle.nc_layout.specs.Findings.{IsSoundLayout};

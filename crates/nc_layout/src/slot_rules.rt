@@ -1,10 +1,10 @@
 //! Findings at the size or the begin of one variable.
 
-ghost use Rattle.std.specs.Prelude.{◌≡◌, ◌≤◌, ◌<◌, ◌^◌, ◌+◌, ◌++◌, Option, OnOk, is_some, slice_get, Some, sum_by};
+ghost use Rattle.std.specs.Prelude.{◌≡◌, ◌≤◌, ◌<◌, ◌^◌, ◌+◌, ◌++◌, OnOk, slice_get, Some};
 ghost use Rattle.std.specs.Option.{ForSome};
-ghost use Rattle.nc_layout.specs.Slots.{padded_slab_len, records_begin};
+ghost use Rattle.nc_layout.specs.Slots.{records_begin};
 ghost use Rattle.nc_layout.specs.Blocks.{each_slot};
-ghost use Rattle.nc_layout.specs.Findings.{IsSoundLayout, IsSoundSlot};
+ghost use Rattle.nc_layout.specs.Findings.{IsSoundLayout};
 ghost use Rattle.nc_layout.specs.SlotRules.{large_limit, large_variable, begin_in_header, after_records, record_place, slot_findings};
 ghost use Rattle.nc_layout.specs.code.Records.{AreRecords};
 ghost use Rattle.nc_layout.specs.code.PassedSlots.{HasPassed, order_after, passed_after, next_has_successor};

@@ -1,5 +1,5 @@
 -- Names of lists in a map, and the first fields that are they.
-use Rattle.nc_rules.proofs.Prelude.{slice_cmp, bytes_decides, option_map_or, option_or, Ordering, is_eq, nat_cmp, ordering_then, NameScope, Indexed, NameKey, is_same_key, is_same_list, is_first, key_of, has_key, first_index, FirstNames, HasFirst, hash, index_if, is_first_of, is_key_of, ◌≡◌, ℕ, Bool, true, false, if◌then◌else◌, ◌&&◌, ◌==◌, List, [], ◌∷◌, ◌++◌, refl, arith, Option, Some, None, Bor}
+use Rattle.nc_rules.proofs.Prelude.{slice_cmp, bytes_decides, option_or, Ordering, is_eq, nat_cmp, ordering_then, NameScope, Indexed, NameKey, is_same_key, is_same_list, is_first, key_of, has_key, first_index, FirstNames, HasFirst, hash, index_if, is_first_of, is_key_of, ◌≡◌, ℕ, Bool, true, false, if◌then◌else◌, ◌&&◌, ◌==◌, List, [], ◌∷◌, ◌++◌, refl, arith, Option, Some, None, Bor}
 use Rattle.std.specs.BTreeMap.{BTreeMap, Updates, is_at}
 use Rattle.std.specs.Map.{lookup}
 use Rattle.std.proofs.lemmas.Grind.{common_steps}
@@ -107,10 +107,6 @@ added-again old mid new key i first is there updates back other =
 first_index-push : (key : NameKey) (earlier : List Indexed) (f : Indexed)
     → first_index key (earlier ++ f ∷ []) ≡ option_or (first_index key earlier) (if has_key key f then Some f.index else None)
 first_index-push key earlier f = grind (arith, find-append)
-
--- whether a field is a name, from the name that it is
-abbrev pub is_key : NameKey → Option NameKey → Bool
-is_key key o = option_map_or (λ (k : NameKey). is_same_key k key) o false
 
 -- a field that is no name
 pub first_index-other : (key : NameKey) (earlier : List Indexed) (f : Indexed) → key_of f.entry ≡ None

@@ -5,7 +5,6 @@ pub use Rattle.nc_findings.specs.declared.{listing.Listing.Listing, entry.Entry.
 pub use Rattle.nc_layout.specs.Blocks.{each_slot}
 pub use Rattle.nc_layout.specs.Findings.{IsSoundLayout, layout_findings}
 pub use Rattle.nc_layout.specs.HeaderLayout.{layout_of}
-pub use Rattle.nc_layout.specs.Slots.{padded_slab_len}
 pub use Rattle.nc_layout.specs.declared.{slot.FileLayout.FileLayout, slot.Slot.Slot}
 pub use Rattle.nc_rules.specs.Ahead.{ahead_of}
 pub use Rattle.nc_rules.specs.AttributeRules.{attribute_finding, finding_by_kind}
@@ -25,7 +24,7 @@ pub use Rattle.nc_rules.specs.declared.{ahead.Ahead.Ahead, ahead.NumberField.Num
 pub use Rattle.std.proofs.Common.{Bool, Bor, Err, IsTrue, List, None, Ok, OnOk, Option, Result, Some, SomeIff, [], ap, append_assoc, ap₂, arith, cond, drop, false, get_or, if◌then◌else◌, length, map, not, refl, rules, slice_get, subst, suc, sym, take, true, zero, ℕ, ◌&&◌, ◌++◌, ◌+◌, ◌-◌, ◌<◌, ◌==◌, ◌^◌, ◌↔◌, ◌∙◌, ◌∷◌, ◌≡◌, ◌≤◌}
 pub use Rattle.std.proofs.lemmas.Bool.{false_from_ne_true}
 pub use Rattle.std.proofs.lemmas.Cmp.{nat_cmp_total, on_total, then_total, tied_itself}
-pub use Rattle.std.proofs.lemmas.List.{append-nil, at_drop_more, length-take-le, take_more}
+pub use Rattle.std.proofs.lemmas.List.{at_drop_more, length-take-le, take_more}
 pub use Rattle.std.proofs.lemmas.List.Sorted.{IsPermutation-append, IsPermutation-append_comm, IsPermutation-append_left, IsPermutation-append_right, IsPermutation-map, IsPermutation-refl, IsPermutation-trans, answers_always, ranks_by, sorted_far, sum_by-IsPermutation}
 pub use Rattle.std.specs.Bool.{one_answer}
 pub use Rattle.std.specs.Cmp.{IsTotalOrder}

@@ -1,6 +1,6 @@
 //! What lies ahead of a field of a header: the next fields that the rules on lists and attributes look at.
 
-ghost use Rattle.std.specs.Prelude.{◌≡◌, [], None};
+ghost use Rattle.std.specs.Prelude.{◌≡◌, []};
 ghost use Rattle.nc_rules.specs.Indexed.{field_at};
 ghost use Rattle.nc_rules.specs.Ahead.{ahead_of, var_type_at, number_at, values_at};
 ghost use Rattle.nc_rules.specs.code.Passes.{ahead_with};

@@ -1,7 +1,7 @@
 //! Findings about an empty list and about an attribute.
 
 ghost use Rattle.std.specs.Prelude.{◌≡◌, ◌++◌, OnOk};
-ghost use Rattle.std.specs.Option.{option_and_then, option_to_list};
+ghost use Rattle.std.specs.Option.{option_to_list};
 ghost use Rattle.nc_rules.specs.Indexed.{field_at, indexed};
 ghost use Rattle.nc_rules.specs.AttributeRules.{attribute_findings, empty_attribute, empty_list, fill_count, fill_finding, finding_by_kind, is_attribute, is_fill_name, is_var_attribute, name_finding, trailing_nul, type_finding};
 ghost use Rattle.nc_rules.specs.code.FirstNames.{HasFirst, is_first_of};

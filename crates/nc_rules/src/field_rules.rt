@@ -114,10 +114,7 @@ fn push_fact(
 ) -> Result<(), AllocError>
     ensures { OnOk result (found.new ≡ found.old ++ map (finding_at i offset) (option_to_list fact)) }
 {
-    if let Some(fact) = fact {
-        found.push(finding_at(i, offset, fact))?;
-    }
-    Ok(())
+    push_some(found, fact.map(|fact| finding_at(i, offset, fact)))
 }
 
 /// Returns what is odd in the number `n`, of `size` bytes, as the field of this kind: `LargeCount`, `LongName`, `HighRank` or `None`.
@@ -212,9 +209,8 @@ fn floating_finding(entries: &[Entry]) -> Option<Finding>
 fn is_floating(entry: &Entry) -> bool
     ensures { result ≡ is_floating_in entry.now.place.field entry.now.content }
 {
-    match entry.content {
-        Content::Number(code) => matches!(entry.place.field, FieldKind::Type)
-            && (code == 5 || code == 6),
-        _ => false,
-    }
+    matches!(
+        (entry.place.field, &entry.content),
+        (FieldKind::Type, Content::Number(5 | 6))
+    )
 }

@@ -38,8 +38,8 @@ fn cut_before(file_len: u64, end: u64) -> Option<Finding>
     })
 }
 
-/// Returns the least length of an HDF5 file with this start: that of a superblock, if it has fewer bytes, or else what the superblock says.
-/// Returns `None` if the superblock doesn't tell.
+/// Returns the least length of an HDF5 file with this start: that of the shortest superblock, if the start has fewer bytes, or else what the
+/// superblock says. Returns `None` if the superblock doesn't tell.
 fn least_length(start: &[u8]) -> Option<u64>
     ensures { result ≡ least_length start.now }
 {

@@ -1,6 +1,6 @@
 //! Reading on until a slice is full.
 
-ghost use Rattle.std.specs.Prelude.{◌≡◌, ◌+◌, ◌*◌, ◌<◌, ◌≤◌, ◌^◌, length};
+ghost use Rattle.std.specs.Prelude.{◌+◌, ◌<◌, ◌≤◌, ◌^◌, length};
 ghost use Rattle.nc_walk.specs.code.FullReads.{ReadsInFull};
 
 use devices::{Source, SourceFailed};

@@ -83,11 +83,7 @@ impl<S: Source> Window<'_, S> {
         if len <= at {
             return Ok(false);
         }
-        let wanted = if len - at < self.buf.len() as u64 {
-            (len - at) as usize
-        } else {
-            self.buf.len()
-        };
+        let wanted = (len - at).min(self.buf.len() as u64) as usize;
         self.base = at;
         self.filled = 0;
         self.pos = 0;
@@ -232,11 +228,7 @@ impl<S: Source> Window<'_, S> {
         ensures { Ready self.now most result.now }
     {
         let ready = self.filled - self.pos;
-        let k = if (ready as u128) < most {
-            ready
-        } else {
-            most as usize
-        };
+        let k = (ready as u128).min(most) as usize;
         &self.buf[self.pos..self.pos + k]
     }
 

@@ -141,10 +141,7 @@ fn names_if_given(
 ) -> Result<Option<Sequence<Sequence<u8>>>, AllocError>
     ensures { IfOk result (λ chosen. chosen ≡ option_map names_in (text_of word.entry)) }
 {
-    match word {
-        Some(word) => Ok(Some(names_in(alloc, word)?)),
-        None => Ok(None),
-    }
+    word.map(|word| names_in(alloc, word)).transpose()
 }
 
 /// Returns the names in `word`, the value of `-v`: its parts between the commas, also empty ones. Errs only if an allocation failed.

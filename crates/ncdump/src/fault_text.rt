@@ -19,8 +19,10 @@ const READ_FAILED: &str = "read failed";
 
 const WRITE_FAILED: &str = "write failed";
 
+/// What follows the index in the message for a chosen name that no variable has.
 const OF_NAMES: &str = " of -v";
 
+/// What comes before the index in the message for a missing value.
 const VARIABLE: &str = "variable ";
 
 /// Writes the line that says why a run failed: a fault of the command line or of the file.

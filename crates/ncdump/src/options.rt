@@ -15,6 +15,7 @@ pub struct DumpOptions {
     pub coords: bool,
     /// The names of the variables whose values may be shown: `-v`. `None` allows every name.
     pub chosen: Option<Sequence<Sequence<u8>>>,
-    /// The width, in bytes, at which lines of values that aren't characters are broken, from 20 to 1000: `-l`.
+    /// The width, in bytes, at which lines of values that aren't characters are broken: `-l`, which takes 20 to 1000. [`dump`](crate::dump)
+    /// takes any width.
     pub width: usize,
 }

@@ -41,8 +41,8 @@ fn chosen_names<'a>(
 {
     match &options.chosen {
         Some(names) => {
-            let known = checked_names(alloc, header.vars.as_slice(), names.as_slice())?;
-            Ok(Some(known))
+            let vars = header.vars.as_slice();
+            Ok(Some(checked_names(alloc, vars, names.as_slice())?))
         }
         None => Ok(None),
     }
@@ -60,8 +60,7 @@ fn dim_names<'a>(
     if !options.coords {
         return Ok(None);
     }
-    let dims = NameSet::of(alloc, header.dims.as_slice())?;
-    Ok(Some(dims))
+    Ok(Some(NameSet::of(alloc, header.dims.as_slice())?))
 }
 
 /// Returns `names` as a set, if each of them is the name of one of `vars`. Errs with `NoSuchVariable` and the index, counted from 0, of the
@@ -112,8 +111,6 @@ fn selection_in_both(
 fn has_name_of(set: &Option<NameSet<'_>>, var: &Var) -> bool
     ensures { result ≡ holds_if set.now var.now.name }
 {
-    match set {
-        Some(names) => names.contains(var.name.as_slice()),
-        None => true,
-    }
+    set.as_ref()
+        .is_none_or(|names| names.contains(var.name.as_slice()))
 }

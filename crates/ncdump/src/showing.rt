@@ -112,7 +112,7 @@ fn show_selected<S: Source, W: Sink>(
         (call_of buf.old (use_of S.view source.old source.new) (use_of W.view sink.old sink.new))
         result) }
 {
-    let mut text = [0; 4096];
+    let mut text: TextBuffer = [0; 4096];
     for v in 0..selection.len() {
         if !is_shown(file.header, v, file.layout.records, selection[v]) {
             continue;
@@ -122,23 +122,23 @@ fn show_selected<S: Source, W: Sink>(
     Ok(())
 }
 
-/// Returns true if `is_selected`, and the variable at index `v` has a value in a file of `count` records. Needs a sound header with this
+/// Returns true if `is_selected`, and the variable at index `v` has a value in a file of `records` records. Needs a sound header with this
 /// variable: only the first dimension of a shape may have length 0 then, so it is enough to look for a slab ([`has_slabs`]).
-fn is_shown(header: &Header, v: usize, count: u64, is_selected: bool) -> bool
+fn is_shown(header: &Header, v: usize, records: u64, is_selected: bool) -> bool
     requires sound { IsSound header.now }
     requires there { v < length header.now.vars }
-    ensures { SaysIsShown header.now v count is_selected result }
+    ensures { SaysIsShown header.now v records is_selected result }
 {
-    is_selected && has_slabs(header, v, count)
+    is_selected && has_slabs(header, v, records)
 }
 
 /// Returns true if the variable at index `v` has a slab (its values in one record, or all values if it isn't a record variable) in a file
-/// of `count` records. Only a record variable over 0 records has none. Needs a header with this variable.
-fn has_slabs(header: &Header, v: usize, count: u64) -> bool
+/// of `records` records. Only a record variable over 0 records has none. Needs a header with this variable.
+fn has_slabs(header: &Header, v: usize, records: u64) -> bool
     requires { v < length header.now.vars }
-    ensures { SaysHasSlabs header.now v count result }
+    ensures { SaysHasSlabs header.now v records result }
 {
-    count > 0 || !is_record_var(header.dims.as_slice(), &header.vars.as_slice()[v])
+    records > 0 || !is_record_var(header.dims.as_slice(), &header.vars.as_slice()[v])
 }
 
 /// Writes the variable at index `v`: what stands before its values, the values as they are read through `buf`, and what stands after them.

@@ -1,9 +1,9 @@
 -- For contracts. Which token of a statement is due, token by token.
-use Rattle.std.specs.Prelude.{Bool, true, false, List, [], ◌∷◌, ◌&&◌, ◌||◌, if◌then◌else◌, not, codes, nat_lt, Option, None, Some}
+use Rattle.std.specs.Prelude.{Bool, true, false, List, [], ◌∷◌, ◌&&◌, ◌||◌, if◌then◌else◌, not, codes, Option, None, Some}
 use Rattle.nc_types.specs.Escapes.{is_reserved}
 use Rattle.cdl_statements.specs.Lexemes.{Lexeme, is_mark, is_word, is_word_kind, is_opening_kind}
 use Rattle.cdl_statements.specs.Pieces.{section_of}
-use Rattle.cdl_statements.specs.Shapes.{section_number}
+use Rattle.cdl_statements.specs.Shapes.{is_later}
 use Rattle.cdl_statements.specs.declared.{due.Due.Due, section.Section.Section}
 use Rattle.cdl_statements.specs.declared.due.Due.TheVariants.{First, DataName, Colon, AttributeName, Equals, Value, Separator, DimensionName, LengthEquals, Length, LengthSeparator, AfterWord, VariableName, AfterVariable, VariableDimension, AfterVariableDimension, AfterShape, Nothing, Never}
 use Rattle.cdl_statements.specs.declared.section.Section.TheVariants.{Unopened, Globals, Dimensions, Variables, Values, Closed, Ended}
@@ -31,7 +31,7 @@ is_length l = is_word (codes "unlimited") l || is_word (codes "UNLIMITED") l || 
 -- the word of a section after this one
 abbrev pub is_after : Section → Option Section → Bool
 is_after before None = false
-is_after before (Some s) = nat_lt (section_number before) (section_number s)
+is_after before (Some s) = is_later before s
 
 abbrev pub opens_section_after : Section → Lexeme → Bool
 opens_section_after before l = is_after before (section_of l)

@@ -1,6 +1,6 @@
 //! The whole header.
 
-ghost use Rattle.std.specs.Prelude.{◌≡◌, ◌<◌, All};
+ghost use Rattle.std.specs.Prelude.{◌<◌, All};
 ghost use Rattle.nc_base.specs.Grammar.{header_spelling, magic_part, numrecs_part, strict};
 ghost use Rattle.nc_base.specs.Headers.{IsSound, IsSoundNumRecs};
 ghost use Rattle.nc_base.specs.Parts.{print};

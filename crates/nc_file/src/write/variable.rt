@@ -1,6 +1,6 @@
 //! The list of variables.
 
-ghost use Rattle.std.specs.Prelude.{◌≡◌, ◌<◌, [], All, length};
+ghost use Rattle.std.specs.Prelude.{◌<◌, [], All, length};
 ghost use Rattle.std.specs.List.{flat_map};
 ghost use Rattle.nc_base.specs.Grammar.{number, shape_part, var_list, var_part, strict};
 ghost use Rattle.nc_base.specs.Headers.{IsSoundVar};

@@ -1,6 +1,5 @@
 //! A variable's array, written slab by slab.
 
-ghost use Rattle.std.specs.Prelude.{◌≡◌};
 ghost use Rattle.devices.specs.code.SinkWrites.{Wrote};
 ghost use Rattle.nc_walk.specs.code.Filled.{ArrayView, filled_part, filled_record, filled_slab, filled_slabs};
 
