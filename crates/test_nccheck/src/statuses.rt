@@ -1,8 +1,11 @@
 //! Runs over several files, with options and trouble.
 
 use crate::runs::{Input, ROOM, Run, UNREAD, ends};
-use devices::{MemFile, MemFiles, OpenFailed};
+use devices::{CountedRead, IoSink, MemFile, MemFiles, OpenFailed, SliceSink};
+use nccheck::run_with;
 use std::alloc::{AllocError, Global};
+use std::io;
+use std::io::{ErrorKind, Write};
 use std::process::Abort;
 use test_files::{
     CLEAN, COORDINATES, Refusing, TWO_RECORDS, char_bytes, file_of, parts_of, patched,
@@ -395,6 +398,53 @@ fn runs_end_with_their_status(rt: HostRuntime) -> Result<(), AllocError> {
     expect_blocks(&rt, rt.alloc(), &files, LISTS)?;
     expect_misuses(&rt, rt.alloc(), &files)?;
     expect_others(&rt, rt.alloc(), &files);
+    Ok(())
+}
+
+/// Standard output of which each write and each flush fails.
+#[derive(Drop)]
+struct Broken;
+
+impl Write for Broken {
+    fn write(&mut self, _bytes: &[u8]) -> io::Result<usize> {
+        Err(ErrorKind::Other.into())
+    }
+
+    fn flush(&mut self) -> io::Result<()> {
+        Err(ErrorKind::Other.into())
+    }
+}
+
+/// Runs with a broken standard output, a run a line: the words, and what standard error gets.
+const UNWRITTEN: &str = "nccheck -V|nccheck: write failed
+nccheck -q -s names|nccheck: write failed
+nccheck clean|nccheck: write failed
+nccheck -s names clean|nccheck: names: write failed";
+
+/// Returns true if a run with these words and a broken standard output says this alone, and has the status 2.
+fn tells_alone(alloc: Global, files: &[MemFile<'_>], words: &[&str], said: &str) -> bool {
+    let mut space = [0; 64];
+    let mut err = SliceSink::new(&mut space, 5);
+    let mut out = IoSink::new(Broken);
+    let mut input = CountedRead::new(b"".as_slice());
+    let mut files = MemFiles::new(&*files);
+    let status = run_with(&mut files, alloc, words, &mut input, &mut out, &mut err);
+    status == 2 && err.taken().strip_suffix(b"\n") == Some(said.as_bytes())
+}
+
+/// A failure of standard output is told once, though the last flush fails too.
+#[test]
+fn failed_output_is_told_once(rt: HostRuntime) -> Result<(), AllocError> {
+    let equal_names = patched(rt.alloc(), COORDINATES, 84, b"x")?;
+    let files = [file("clean", CLEAN), file("names", equal_names.as_slice())];
+    for row in UNWRITTEN.split('\n') {
+        let (words, said) = row.split_once('|').unwrap_or((row, ""));
+        let words = parts_of(rt.alloc(), words, ' ')?;
+        assert!(rt;
+            tells_alone(rt.alloc(), &files, words.as_slice(), said),
+            "{row}"
+        );
+    }
     Ok(())
 }
 
